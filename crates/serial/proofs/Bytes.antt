@@ -1,6 +1,6 @@
 -- Six bytes and their number, the order of both, and lists of bytes under a mask.
 use mathlib.Core.Path.{_≡_, refl, sym, _∙_, ap}
-use mathlib.Core.Bool.{Bool, true, false, cond}
+use mathlib.Core.Bool.{Bool, true, false, cond, not, _||_}
 use mathlib.Core.List.{List, [], _∷_}
 use Prim.Native.Nat.{ℕ, _+_, _*_, _/_, _%_, _^_, _<_}
 use native.Mathlib.Omega.{arith}
@@ -8,7 +8,10 @@ use borrow.Author.Tests.{lt-ltb, ltb-true}
 use lib.Dec.{eqb, ltb}
 use lib.ListN.{length, getD, drop}
 use Rattle.std.proofs.shelf.Lists.{drop-more}
-use Rattle.std.proofs.shelf.Ways.{tells}
+use Rattle.std.proofs.shelf.Elements.{has-from-contains}
+use Rattle.std.proofs.shelf.Ways.{tells, decides-by-or, decides-eqb, same-from-decides}
+use Rattle.std.specs.Orderings.{Decides}
+use Rattle.std.specs.Places.{Some-of}
 use Rattle.serial.specs.Six.{six, noZero, fair, fitting, before}
 
 pub spelled : (bs : List ℕ) → length bs ≡ 6 → bs ≡ getD bs 0 0 ∷ getD bs 1 0 ∷ getD bs 2 0 ∷ getD bs 3 0 ∷ getD bs 4 0 ∷ getD bs 5 0 ∷ []
@@ -56,8 +59,19 @@ both false u h = let z : _≡_ {A = ℕ} 0 1 = cc in absurd (omega arith)
 pub fair-parts : (v : ℕ) → fair v ≡ true → (v < 2 ^ 48) × (noZero (six v) ≡ true)
 fair-parts v h = let p = both (ltb v (2 ^ 48)) (noZero (six v)) h in (ltb-true _ _ (p .0), p .1)
 
-pub noZero-step : (bs : List ℕ) (i : ℕ) → i < length bs → noZero (drop i bs) ≡ noZero (getD bs i 0 ∷ drop (i + 1) bs)
-noZero-step bs i h = rw (drop-more bs i 0 h)
+not-first : (t u : Bool) → not (cond t false u) ≡ (t || not u)
+not-first true u = refl
+not-first false u = refl
+
+not-twice : (r t : Bool) → r ≡ not t → not r ≡ t
+not-twice r true h = ap not h
+not-twice r false h = ap not h
+
+-- no byte is zero where a search for one finds none
+pub noZero-from-contains : (bs : List ℕ) (r : Bool) → Some-of (λ b t. Decides t (b ≡ 0)) bs r → not r ≡ noZero bs
+noZero-from-contains bs r h =
+    let some = decides-by-or (λ b. eqb b 0) (λ b. b ≡ 0) (λ l. not (noZero l)) (λ b. decides-eqb b 0) refl (λ b l. not-first (eqb b 0) (noZero l)) bs in
+    not-twice r (noZero bs) (same-from-decides r (not (noZero bs)) (has-from-contains bs 0 r h) some)
 
 pub fitting-step : (ms bs : List ℕ) (i : ℕ) → i < length ms → i < length bs → fitting (drop i ms) (drop i bs) ≡ fitting (getD ms i 0 ∷ drop (i + 1) ms) (getD bs i 0 ∷ drop (i + 1) bs)
 fitting-step ms bs i h k = rw (drop-more ms i 0 h, drop-more bs i 0 k)

@@ -1,6 +1,6 @@
 -- What a serial has, and that serials with the same bytes are the same.
 use mathlib.Core.Path.{_≡_, sym, ap, _∙_}
-use mathlib.Core.Bool.{true, false, Bool-set}
+use mathlib.Core.Bool.{Bool, true, false, Bool-set}
 use mathlib.Core.HLevel.{isProp→PathP}
 use mathlib.Core.List.{List}
 use Prim.Native.Nat.{ℕ, _^_, _<_}
@@ -19,8 +19,12 @@ serial-lt s = fair-parts (s .value) (s .ok) .0
 pub serial-no-zero : (s : Serial) → noZero (six (s .value)) ≡ true
 serial-no-zero s = fair-parts (s .value) (s .ok) .1
 
+-- the order of the numbers is the order of the bytes
 pub serial-before : (s t : Serial) → before (six (s .value)) (six (t .value)) ≡ ltb (s .value) (t .value)
 serial-before s t = before-six (s .value) (t .value) (serial-lt s) (serial-lt t)
+
+pub before-from-ltb : (s t : Serial) (r : Bool) → r ≡ ltb (s .value) (t .value) → r ≡ before (six (s .value)) (six (t .value))
+before-from-ltb s t r h = h ∙ sym (serial-before s t)
 
 -- a serial is its number, and so its bytes
 pub serial-from-value : (s t : Serial) → s .value ≡ t .value → s ≡ t

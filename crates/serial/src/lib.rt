@@ -82,12 +82,7 @@ fn six_bytes(value: u64) -> [u8; 6]
 pub fn has_no_zero(bytes: [u8; 6]) -> bool
     ensures { λ r. ⌜ r ≡ noZero bytes ⌝ }
 {
-    for b in &bytes {
-        if *b == 0 {
-            return false;
-        }
-    }
-    true
+    !bytes.contains(&0)
 }
 
 // Whether the mask fits the bytes, a serial's or not: each byte of the mask is zero or the byte at its place.
