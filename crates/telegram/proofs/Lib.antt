@@ -1,0 +1,4 @@
+pub mod Bodies
+pub mod Seals
+pub mod Accepts
+pub mod Grows
