@@ -14,6 +14,8 @@ pub use fault::AnswerFault;
 pub use fault::AnswerFromTelegram;
 pub use fault::TelegramFault;
 pub use message::Telegram;
+pub use reading::read_answer;
 pub use reading::read_question;
+pub use writing::write_answer;
 pub use writing::write_exception;
 pub use writing::write_question;
