@@ -1,0 +1,8 @@
+// The language of the bench: one command to a line, carried out and answered by one line of output.
+mod command;
+mod hex;
+mod run;
+mod unread;
+mod words;
+
+pub use run::run_script;
