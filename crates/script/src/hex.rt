@@ -29,3 +29,16 @@ pub impl fmt::Display for Joined<'_> as JoinedDisplay {
         Ok(())
     }
 }
+
+// The twelve digits of a serial or a mask.
+#[derive(Clone, Copy)]
+pub struct SixBytes(pub [u8; 6]);
+
+pub impl fmt::Display for SixBytes as SixBytesDisplay {
+    fn fmt<W: fmt::Write>(&self, f: &mut fmt::Formatter<W>) -> fmt::Result {
+        for byte in self.0.iter() {
+            write!(f, "{byte:02X}")?;
+        }
+        Ok(())
+    }
+}

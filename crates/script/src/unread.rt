@@ -3,18 +3,23 @@ use std::alloc::AllocError;
 use std::alloc::Refused;
 use std::fmt;
 
-#[derive(Clone, Copy, PartialEq, Eq, Debug)]
+#[derive(Clone, Copy)]
 pub enum Unread {
     UnknownCommand,
     UnknownWord,
     MissingWord,
     ExtraWord,
-    // a word of BYTES or data with an odd number of digits
     OddDigits,
-    NotHexadecimal,
-    NotDecimal,
+    NoHexadecimalDigit,
+    NoDecimalDigit,
     TooLarge,
-    SerialDigits,
+    NoSerial,
+    // a word of fields without its '='
+    NoField,
+    UnknownField,
+    FieldTwice,
+    EmptyField,
+    NoStation,
     Memory,
 }
 
@@ -26,10 +31,15 @@ pub impl fmt::Display for Unread as UnreadDisplay {
             Unread::MissingWord => "a word is missing",
             Unread::ExtraWord => "a word too many",
             Unread::OddDigits => "odd number of digits",
-            Unread::NotHexadecimal => "no hexadecimal digit",
-            Unread::NotDecimal => "no decimal digit",
+            Unread::NoHexadecimalDigit => "no hexadecimal digit",
+            Unread::NoDecimalDigit => "no decimal digit",
             Unread::TooLarge => "number too large for its place",
-            Unread::SerialDigits => "a serial has twelve digits",
+            Unread::NoSerial => "a serial has twelve digits",
+            Unread::NoField => "a field is written name=value",
+            Unread::UnknownField => "unknown field",
+            Unread::FieldTwice => "field given twice",
+            Unread::EmptyField => "field without a value",
+            Unread::NoStation => "no station yet",
             Unread::Memory => "no memory left for it",
         };
         write!(f, "{text}")

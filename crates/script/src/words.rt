@@ -1,6 +1,6 @@
 // Lines and words of a script, which are bytes and need not be text, and what a word says: a number, bytes, a serial.
-ghost use Prim.Native.Nat.{_≤_, _<_};
-ghost use Rattle.std.specs.Options.{Cases};
+ghost use mathlib.Core.Path.{_≡_};
+ghost use Prim.Native.Nat.{_+_, _*_, _≤_, _<_};
 ghost use Rattle.std.specs.Vec.{made};
 use crate::unread::Unread;
 use crate::unread::UnreadFromAlloc;
@@ -77,33 +77,107 @@ pub fn cut_at<'a>(word: &'a [u8], mark: u8) -> Option<(&'a [u8], &'a [u8])> {
 pub fn bytes_of(heap: Global, words: &[&[u8]]) -> Result<Vec<u8>, Unread> {
     let mut bytes = Vec::new(heap);
     for word in words.iter() {
-        for pair in word.chunks(2) {
-            bytes.push(byte_of(pair)?)?;
-        }
+        push_bytes(&mut bytes, word)?;
     }
     Ok(bytes)
+}
+
+pub fn push_bytes(bytes: &mut Vec<u8>, word: &[u8]) -> Result<(), Unread> {
+    for pair in word.chunks(2) {
+        bytes.push(byte_of(pair)?)?;
+    }
+    Ok(())
 }
 
 fn byte_of(pair: &[u8]) -> Result<u8, Unread> {
     let [high, low] = pair else {
         return Err(Unread::OddDigits);
     };
-    let Some(high) = hex_digit(*high) else {
-        return Err(Unread::NotHexadecimal);
-    };
-    let Some(low) = hex_digit(*low) else {
-        return Err(Unread::NotHexadecimal);
-    };
-    Ok(16 * high + low)
+    Ok(16 * hex_digit(*high)? + hex_digit(*low)?)
 }
 
-fn hex_digit(byte: u8) -> Option<u8>
-    ensures { λ r. ⌜ Cases r (Unit {0}) (λ d. d < 16) ⌝ }
+pub fn serial_of(word: &[u8]) -> Result<[u8; 6], Unread> {
+    if word.len() != 12 {
+        return Err(Unread::NoSerial);
+    }
+    let mut serial = [0; 6];
+    for (byte, pair) in serial.iter_mut().zip(word.chunks(2)) {
+        *byte = byte_of(pair)?;
+    }
+    Ok(serial)
+}
+
+pub fn hex_byte(word: &[u8]) -> Result<u8, Unread> {
+    Ok(hex_number(word, 2, 0xFF)? as u8)
+}
+
+pub fn hex_word(word: &[u8]) -> Result<u16, Unread> {
+    hex_number(word, 4, 0xFFFF)
+}
+
+// A number of at most so many hexadecimal digits.
+fn hex_number(word: &[u8], digits: usize, limit: u16) -> Result<u16, Unread>
+    ensures { λ r. ⌜ made r (λ n. n ≤ limit) ⌝ }
+{
+    if word.len() > digits {
+        return Err(Unread::TooLarge);
+    }
+    let mut value = 0u16;
+    for byte in word.iter() {
+        value = with_digit(value, 16, hex_digit(*byte)?)?;
+    }
+    within(value, limit)
+}
+
+pub fn decimal(word: &[u8], limit: u16) -> Result<u16, Unread>
+    ensures { λ r. ⌜ made r (λ n. n ≤ limit) ⌝ }
+{
+    let mut value = 0u16;
+    for byte in word.iter() {
+        value = with_digit(value, 10, decimal_digit(*byte)?)?;
+    }
+    within(value, limit)
+}
+
+// The number with one digit more behind it.
+fn with_digit(value: u16, base: u16, digit: u8) -> Result<u16, Unread>
+    ensures { λ r. ⌜ made r (λ n. n ≡ base * value + digit) ⌝ }
+{
+    let Some(shifted) = value.checked_mul(base) else {
+        return Err(Unread::TooLarge);
+    };
+    let Some(next) = shifted.checked_add(digit as u16) else {
+        return Err(Unread::TooLarge);
+    };
+    Ok(next)
+}
+
+fn within(value: u16, limit: u16) -> Result<u16, Unread>
+    ensures { λ r. ⌜ made r (λ n. (n ≡ value) × (n ≤ limit)) ⌝ }
+{
+    if value > limit {
+        Err(Unread::TooLarge)
+    } else {
+        Ok(value)
+    }
+}
+
+fn hex_digit(byte: u8) -> Result<u8, Unread>
+    ensures { λ r. ⌜ made r (λ d. d < 16) ⌝ }
 {
     match byte {
-        b'0'..=b'9' => Some(byte - b'0'),
-        b'A'..=b'F' => Some(byte - b'A' + 10),
-        b'a'..=b'f' => Some(byte - b'a' + 10),
-        _ => None,
+        b'0'..=b'9' => Ok(byte - b'0'),
+        b'A'..=b'F' => Ok(byte - b'A' + 10),
+        b'a'..=b'f' => Ok(byte - b'a' + 10),
+        _ => Err(Unread::NoHexadecimalDigit),
+    }
+}
+
+fn decimal_digit(byte: u8) -> Result<u8, Unread>
+    ensures { λ r. ⌜ made r (λ d. d < 10) ⌝ }
+{
+    match byte {
+        b'0'..=b'9' => Ok(byte - b'0'),
+        _ => Err(Unread::NoDecimalDigit),
     }
 }
