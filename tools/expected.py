@@ -3,7 +3,7 @@
 
     tools/expected.py crates/fanwall/stdin | diff - crates/fanwall/stdout
 
-It is written from docs/SCRIPT.md alone and shares nothing with the crates, so that the recorded output is held to
+It follows docs/SCRIPT.md and shares nothing with the crates, so that the recorded output is held to
 two workings. A line that is not read has 'WHY' for its reason, which is free text.
 """
 import sys
