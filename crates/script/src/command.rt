@@ -2,7 +2,7 @@
 use crate::fields::Fields;
 use crate::unread::Unread;
 use crate::words::bytes_of;
-use crate::words::decimal;
+use crate::words::decimal_byte;
 use crate::words::serial_of;
 use std::alloc::Global;
 
@@ -94,7 +94,7 @@ impl Fitting {
         };
         let kind = Kind::parse(kind)?;
         let serial = serial_of(serial)?;
-        let address = decimal(address, 255)? as u8;
+        let address = decimal_byte(address)?;
         let defective = parse_state(state)?;
         Ok(Fitting {
             kind,

@@ -6,7 +6,7 @@ use crate::hex::SixBytesDisplay;
 use crate::unread::Unread;
 use crate::unread::UnreadFromAlloc;
 use crate::words::cut_at;
-use crate::words::decimal;
+use crate::words::decimal_byte;
 use crate::words::hex_byte;
 use crate::words::hex_word;
 use crate::words::push_bytes;
@@ -58,13 +58,13 @@ impl Fields {
     fn put(&mut self, heap: Global, name: &[u8], value: &[u8]) -> Result<(), Unread> {
         match name {
             b"address" => put_once(&mut self.address, decimal_byte(value)?),
-            b"command" => put_once(&mut self.command, hex_byte(given(value)?)?),
+            b"command" => put_once(&mut self.command, hex_byte(value)?),
             b"serial" => put_once(&mut self.serial, serial_of(value)?),
-            b"subfunction" => put_once(&mut self.subfunction, hex_word(given(value)?)?),
-            b"register" => put_once(&mut self.register, hex_word(given(value)?)?),
-            b"value" => put_once(&mut self.value, hex_word(given(value)?)?),
+            b"subfunction" => put_once(&mut self.subfunction, hex_word(value)?),
+            b"register" => put_once(&mut self.register, hex_word(value)?),
+            b"value" => put_once(&mut self.value, hex_word(value)?),
             b"size" => put_once(&mut self.size, decimal_byte(value)?),
-            b"code" => put_once(&mut self.code, hex_byte(given(value)?)?),
+            b"code" => put_once(&mut self.code, hex_byte(value)?),
             b"data" => put_once(&mut self.data, data_of(heap, value)?),
             _ => Err(Unread::UnknownField),
         }
@@ -95,19 +95,6 @@ fn put_once<T: Drop>(place: &mut Option<T>, value: T) -> Result<(), Unread> {
     }
     *place = Some(value);
     Ok(())
-}
-
-// A field's value, which is not left out.
-fn given<'a>(value: &'a [u8]) -> Result<&'a [u8], Unread> {
-    if value.is_empty() {
-        Err(Unread::EmptyField)
-    } else {
-        Ok(value)
-    }
-}
-
-fn decimal_byte(value: &[u8]) -> Result<u8, Unread> {
-    Ok(decimal(given(value)?, 255)? as u8)
 }
 
 fn data_of(heap: Global, value: &[u8]) -> Result<Vec<u8>, Unread> {

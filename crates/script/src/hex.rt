@@ -36,9 +36,7 @@ pub struct SixBytes(pub [u8; 6]);
 
 pub impl fmt::Display for SixBytes as SixBytesDisplay {
     fn fmt<W: fmt::Write>(&self, f: &mut fmt::Formatter<W>) -> fmt::Result {
-        for byte in self.0.iter() {
-            write!(f, "{byte:02X}")?;
-        }
-        Ok(())
+        let digits = Joined(&self.0);
+        write!(f, "{digits}")
     }
 }

@@ -53,9 +53,7 @@ pub fn run_script(rt: &LibcRuntime, text: &[u8]) -> io::Result<bool> {
 }
 
 fn run_line(rt: &LibcRuntime, bench: &mut Bench, line: &[u8]) -> Result<(), Trouble> {
-    let Ok(words) = words_of(rt.alloc(), line) else {
-        return Err(Trouble::Line(Unread::Memory));
-    };
+    let words = words_of(rt.alloc(), line)?;
     if words.is_empty() {
         return Ok(());
     }

@@ -12,13 +12,13 @@ pub enum Unread {
     OddDigits,
     NoHexadecimalDigit,
     NoDecimalDigit,
+    NoDigits,
     TooLarge,
     NoSerial,
     // a word of fields without its '='
     NoField,
     UnknownField,
     FieldTwice,
-    EmptyField,
     NoStation,
     Memory,
 }
@@ -33,12 +33,12 @@ pub impl fmt::Display for Unread as UnreadDisplay {
             Unread::OddDigits => "odd number of digits",
             Unread::NoHexadecimalDigit => "no hexadecimal digit",
             Unread::NoDecimalDigit => "no decimal digit",
+            Unread::NoDigits => "a number without digits",
             Unread::TooLarge => "number too large for its place",
             Unread::NoSerial => "a serial has twelve digits",
             Unread::NoField => "a field is written name=value",
             Unread::UnknownField => "unknown field",
             Unread::FieldTwice => "field given twice",
-            Unread::EmptyField => "field without a value",
             Unread::NoStation => "no station yet",
             Unread::Memory => "no memory left for it",
         };

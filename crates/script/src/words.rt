@@ -26,7 +26,7 @@ pub fn lines_of<'a>(heap: Global, text: &'a [u8]) -> Result<Vec<&'a [u8]>, Alloc
 }
 
 // The words of a line, up to its comment.
-pub fn words_of<'a>(heap: Global, line: &'a [u8]) -> Result<Vec<&'a [u8]>, AllocError> {
+pub fn words_of<'a>(heap: Global, line: &'a [u8]) -> Result<Vec<&'a [u8]>, Unread> {
     let mut words = Vec::new(heap);
     let said = before_comment(line);
     let mut start = 0usize;
@@ -40,7 +40,7 @@ pub fn words_of<'a>(heap: Global, line: &'a [u8]) -> Result<Vec<&'a [u8]>, Alloc
     Ok(words)
 }
 
-fn push_word<'a>(words: &mut Vec<&'a [u8]>, word: Option<&'a [u8]>) -> Result<(), AllocError> {
+fn push_word<'a>(words: &mut Vec<&'a [u8]>, word: Option<&'a [u8]>) -> Result<(), Unread> {
     if let Some(word) = word {
         if !word.is_empty() {
             words.push(word)?;
@@ -107,18 +107,22 @@ pub fn serial_of(word: &[u8]) -> Result<[u8; 6], Unread> {
     Ok(serial)
 }
 
+// A number of one or two hexadecimal digits.
 pub fn hex_byte(word: &[u8]) -> Result<u8, Unread> {
     Ok(hex_number(word, 2, 0xFF)? as u8)
 }
 
+// A number of one to four hexadecimal digits.
 pub fn hex_word(word: &[u8]) -> Result<u16, Unread> {
     hex_number(word, 4, 0xFFFF)
 }
 
-// A number of at most so many hexadecimal digits.
 fn hex_number(word: &[u8], digits: usize, limit: u16) -> Result<u16, Unread>
     ensures { λ r. ⌜ made r (λ n. n ≤ limit) ⌝ }
 {
+    if word.is_empty() {
+        return Err(Unread::NoDigits);
+    }
     if word.len() > digits {
         return Err(Unread::TooLarge);
     }
@@ -129,9 +133,17 @@ fn hex_number(word: &[u8], digits: usize, limit: u16) -> Result<u16, Unread>
     within(value, limit)
 }
 
-pub fn decimal(word: &[u8], limit: u16) -> Result<u16, Unread>
+// A decimal number of at most 255.
+pub fn decimal_byte(word: &[u8]) -> Result<u8, Unread> {
+    Ok(decimal(word, 255)? as u8)
+}
+
+fn decimal(word: &[u8], limit: u16) -> Result<u16, Unread>
     ensures { λ r. ⌜ made r (λ n. n ≤ limit) ⌝ }
 {
+    if word.is_empty() {
+        return Err(Unread::NoDigits);
+    }
     let mut value = 0u16;
     for byte in word.iter() {
         value = with_digit(value, 10, decimal_digit(*byte)?)?;
