@@ -1,0 +1,10 @@
+// The language of the bench: one command to a line, carried out and answered by one line of output.
+mod bench;
+mod command;
+mod fields;
+mod hex;
+mod run;
+mod unread;
+mod words;
+
+pub use run::run_script;
