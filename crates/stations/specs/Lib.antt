@@ -1,0 +1,11 @@
+pub mod Kinds
+pub mod Rights
+pub mod Device
+pub mod Calls
+pub mod Parts
+pub mod Sizes
+pub mod Grants
+pub mod LawsOfWrites
+pub mod LawsOfCalls
+pub mod Laws
+pub mod Shows

@@ -1,0 +1,5 @@
+pub mod Wall
+pub mod Telegrams
+pub mod Rules
+pub mod Laws
+pub mod Tells
