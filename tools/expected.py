@@ -1,5 +1,5 @@
 #!/usr/bin/env python3
-"""What a script of checksum, read and write lines must print, worked out a second time.
+"""What a script must print, worked out a second time.
 
     tools/expected.py crates/fanwall/stdin | diff - crates/fanwall/stdout
 
@@ -123,6 +123,155 @@ def read_to(telegram, question):
     return answer
 
 
+class Fan:
+    """A V5.00 fan. The other kinds differ in the values at the top, and where a method is written anew."""
+
+    commands = (0x03, 0x04, 0x06, 0x08, 0x10, 0x43, 0x44, 0x46, 0x50)
+    longest = 23
+    most_read = 9
+    inputs = range(0xD000, 0xD025)
+    holdings = range(0xD000, 0xD380)
+    rights = [  # by level: end customer, customer, factory
+        {0xD000, 0xD001, 0xD002, 0xD147, *range(0xD100, 0xD10E)},
+        {0xD10E, 0xD145, 0xD149, 0xD14A},
+        {0xD009, 0xD00A, 0xD13B},
+    ]
+
+    def __init__(self, serial, address, defective):
+        self.serial, self.address, self.defective, self.level = serial, address, defective, 0
+        self.registers = {0xD100: address, 0xD149: 4}
+        for place in range(3):
+            self.registers[0xD1A2 + place] = int.from_bytes(serial[2 * place : 2 * place + 2], "big")
+
+    def holding(self, register):
+        return self.registers.get(register, 0)
+
+    def input(self, register):
+        return {0xD010: min(self.holding(0xD001), 0xFF00), 0xD011: 0x18 if self.defective else 0}.get(register, 0)
+
+    def store(self, register, value):
+        if register == 0xD000:
+            if value == 2 and 1 <= self.holding(0xD100) <= 247:
+                self.address = self.holding(0xD100)
+        elif register == 0xD002:
+            self.level = {0x4321: 1, 0x8765: 2}.get(value, 0)
+        else:
+            self.registers[register] = value & 0xFF if register == 0xD100 else value
+
+    def hears(self, asked):
+        """Whether a telegram of the right form is meant for it."""
+        if asked["command"] in BY_SERIAL:
+            return all(mask in (0, byte) for mask, byte in zip(asked["serial"], self.serial))
+        return asked["address"] != 0 or asked["command"] in (0x06, 0x10)
+
+    def answers(self, asked):
+        return asked["address"] != 0 or asked["command"] in BY_SERIAL
+
+    def tell(self, telegram):
+        """The answer, or None for silence."""
+        if not 4 <= len(telegram) <= self.longest or checksum(telegram[:-2]) != telegram[-2:]:
+            return None
+        address, command = telegram[0], telegram[1]
+        if address not in (0, self.address):
+            return None
+        if command not in self.commands:
+            if address == 0:
+                return None
+            refusal = bytes([self.address, command | 0x80, 1])
+            return refusal + checksum(refusal)
+        try:
+            asked = read(QUESTIONS, telegram)
+        except Refused:
+            return None
+        if not self.hears(asked):
+            return None
+        try:
+            answer = asked | self.carry_out(asked)
+        except Refused as fault:
+            answer = asked | {"command": command + 0x80, "code": fault.args[0]}
+        answer |= {"address": self.address, "serial": self.serial}
+        return write(ANSWERS, answer) if self.answers(asked) else None
+
+    def carry_out(self, asked):
+        """What the answer has in place of the question's fields; a refusal is the code of the exception."""
+        command, first, value = asked["command"], asked["register"], asked["value"]
+        if command == 0x08:
+            if asked["subfunction"] != 0:
+                raise Refused(1)
+            return {}
+        if command in (0x03, 0x04, 0x43, 0x44):
+            if not 1 <= value <= (6 if command in BY_SERIAL else self.most_read):
+                raise Refused(3)
+            kind, value_of = (self.holdings, self.holding) if command in (0x03, 0x43) else (self.inputs, self.input)
+            if first not in kind or first + value - 1 not in kind:
+                raise Refused(2)
+            told = b"".join(value_of(first + k).to_bytes(2, "big") for k in range(value))
+            return {"size": len(told), "data": told}
+        values = [value]
+        if command in (0x10, 0x50):
+            data = asked["data"]
+            if not (value >= 1 and asked["size"] == len(data) == 2 * value):
+                raise Refused(3)
+            values = [int.from_bytes(data[2 * k : 2 * k + 2], "big") for k in range(value)]
+        if first not in self.holdings or first + len(values) - 1 not in self.holdings:
+            raise Refused(2)
+        allowed = set().union(*self.rights[: self.level + 1])
+        for register in range(first, first + len(values)):
+            if register not in allowed or self.defective and register >= 0xD100:
+                raise Refused(4)
+        for place, word in enumerate(values):
+            self.store(first + place, word)
+        return {}
+
+
+class OlderFan(Fan):
+    commands = (0x03, 0x04, 0x06, 0x08, 0x10, 0x46)
+    longest = 17
+    most_read = 6
+    inputs = range(0xD000, 0xD020)
+
+    def hears(self, asked):
+        if asked["command"] == 0x46:
+            return asked["address"] != 0 and asked["serial"] == self.serial
+        return super().hears(asked)
+
+    def answers(self, asked):
+        return asked["address"] != 0
+
+
+class Controller(OlderFan):
+    commands = (0x03, 0x04, 0x06, 0x10)
+    inputs = range(100, 132)
+    holdings = range(0)
+
+    def input(self, register):
+        return self.address if register == 111 else 0
+
+
+KINDS = {"fan": Fan, "older": OlderFan, "controller": Controller}
+
+
+class Bench:
+    station = None
+
+    def put(self, words):
+        if not (3 <= len(words) <= 4 and words[0] in KINDS and words[3:] in ([], ["defective"]) and len(words[1]) == 12):
+            raise NotRead
+        serial, address = some_bytes([words[1]]), number(words[2], 10, len(words[2]), 255)
+        if 0 in serial:
+            raise Refused(12)
+        if not 1 <= address <= 247:
+            raise Refused(13)
+        self.station = KINDS[words[0]](serial, address, len(words) == 4)
+        return "station done"
+
+    def tell(self, telegram):
+        if self.station is None:
+            raise NotRead
+        answer = self.station.tell(telegram)
+        return "tell silence" if answer is None else "tell answer " + spaced(answer)
+
+
 def number(word, base, most_digits, limit):
     digits = "0123456789abcdef"[:base]
     if not word or len(word) > most_digits or any(c not in digits for c in word.lower()):
@@ -171,8 +320,12 @@ def printed(fields):
     return " ".join(name + "=" + value(name) for name in NAMES)
 
 
-def result(words):
+def result(bench, words):
     match words:
+        case ["station", *what]:
+            return bench.put(what)
+        case ["tell", *data]:
+            return bench.tell(some_bytes(data))
         case ["checksum", *data]:
             return "checksum " + spaced(checksum(some_bytes(data)))
         case ["read", "question", *data]:
@@ -196,15 +349,16 @@ def result(words):
 
 def main():
     source = open(sys.argv[1], "rb") if len(sys.argv) > 1 else sys.stdin.buffer
+    bench = Bench()
     for place, line in enumerate(source.read().decode("latin-1").split("\n"), 1):
         words = line.partition("#")[0].replace("\t", " ").replace("\r", " ").split(" ")
         words = [word for word in words if word]
         if not words:
             continue
         try:
-            print(result(words))
+            print(result(bench, words))
         except Refused as fault:
-            print(" ".join(words[:2]), "refused", fault)
+            print(" ".join(words[: 1 if words[0] == "station" else 2]), "refused", fault)
         except NotRead:
             print("line %d: not read (WHY)" % place)
 

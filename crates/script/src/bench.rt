@@ -1,21 +1,118 @@
 // What a script keeps from line to line.
 use crate::command::Fitting;
-use crate::unread::Unread;
+use crate::command::Kind;
+use serial::Serial;
+use stations::Controller;
+use stations::ControllerStation;
+use stations::Fan;
+use stations::FanStation;
+use stations::OlderFan;
+use stations::OlderFanStation;
+use wall::Address;
+use wall::ShortBuffer;
+use wall::Station;
 
-// The station alone, if there is one. No station can be put there yet.
+// The bench, with the station alone on it, if there is one.
 #[derive(Drop)]
-pub struct Bench {}
+pub struct Bench {
+    station: Option<Alone>,
+}
+
+// A station on no line.
+#[derive(Drop)]
+enum Alone {
+    Fan(Fan),
+    Older(OlderFan),
+    Controller(Controller),
+}
+
+// Why nothing could be told.
+#[derive(Clone, Copy)]
+pub enum Untold {
+    NoStation,
+    ShortBuffer,
+}
+
+// Why no station is put on the bench.
+#[derive(Clone, Copy)]
+pub enum StationFault {
+    // the serial has a zero byte
+    Serial,
+    // the address is not 1 to 247
+    Address,
+}
+
+impl StationFault {
+    pub fn number(self) -> u8 {
+        match self {
+            StationFault::Serial => 12,
+            StationFault::Address => 13,
+        }
+    }
+}
 
 impl Bench {
     pub fn new() -> Bench {
-        Bench {}
+        Bench { station: None }
     }
 
-    pub fn put_station(&mut self, _fitting: &Fitting) -> Result<(), Unread> {
-        Err(Unread::NoStation)
+    // Puts a new station in place of the one before, which stays where this is refused.
+    pub fn put_station(&mut self, fitting: &Fitting) -> Result<(), StationFault> {
+        self.station = Some(Alone::new(fitting)?);
+        Ok(())
     }
 
-    pub fn tell(&mut self, _telegram: &[u8]) -> Result<(), Unread> {
-        Err(Unread::NoStation)
+    // How many bytes of the buffer the station answers, or none where it is silent.
+    pub fn tell(&mut self, telegram: &[u8], buffer: &mut [u8]) -> Result<Option<usize>, Untold> {
+        let Some(station) = self.station.take() else {
+            return Err(Untold::NoStation);
+        };
+        let (station, said) = station.told(telegram, buffer);
+        self.station = Some(station);
+        match said {
+            Ok(n) => Ok(n),
+            Err(ShortBuffer) => Err(Untold::ShortBuffer),
+        }
+    }
+}
+
+impl Alone {
+    fn new(fitting: &Fitting) -> Result<Alone, StationFault> {
+        let Some(serial) = Serial::from_bytes(fitting.serial) else {
+            return Err(StationFault::Serial);
+        };
+        let Some(address) = Address::new(fitting.address) else {
+            return Err(StationFault::Address);
+        };
+        let defective = fitting.defective;
+        Ok(
+            match fitting.kind {
+                Kind::Fan => Alone::Fan(Fan::new(serial, address, defective)),
+                Kind::Older => Alone::Older(OlderFan::new(serial, address, defective)),
+                Kind::Controller => Alone::Controller(Controller::new(serial, address, defective)),
+            },
+        )
+    }
+
+    // What it becomes, and how many bytes of the buffer it answers, or none where it is silent.
+    fn told(
+        self,
+        telegram: &[u8],
+        buffer: &mut [u8],
+    ) -> (Alone, Result<Option<usize>, ShortBuffer>) {
+        match self {
+            Alone::Fan(mut fan) => {
+                let said = fan.tell(telegram, buffer);
+                (Alone::Fan(fan), said)
+            }
+            Alone::Older(mut fan) => {
+                let said = fan.tell(telegram, buffer);
+                (Alone::Older(fan), said)
+            }
+            Alone::Controller(mut controller) => {
+                let said = controller.tell(telegram, buffer);
+                (Alone::Controller(controller), said)
+            }
+        }
     }
 }

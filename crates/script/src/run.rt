@@ -1,6 +1,8 @@
 // A script carried out, line by line.
 use crate::bench::Bench;
+use crate::bench::Untold;
 use crate::command::Command;
+use crate::command::Fitting;
 use crate::fields::Fields;
 use crate::fields::Printed;
 use crate::fields::PrintedDisplay;
@@ -72,8 +74,8 @@ fn carry_out(rt: &LibcRuntime, bench: &mut Bench, command: &Command) -> Result<(
         Command::ReadAnswerTo { answer, question } => read_answer_to(rt, answer, question)?,
         Command::WriteQuestion(fields) => write_question(rt, fields)?,
         Command::WriteAnswer(fields) => write_answer(rt, fields)?,
-        Command::Station(fitting) => bench.put_station(fitting)?,
-        Command::Tell(bytes) => bench.tell(bytes)?,
+        Command::Station(fitting) => put_station(rt, bench, fitting)?,
+        Command::Tell(bytes) => tell(rt, bench, bytes)?,
     }
     Ok(())
 }
@@ -128,4 +130,26 @@ fn print_written(
         ),
         Err(fault) => println!(rt, "write {what} refused {}", fault.number()),
     }
+}
+
+fn put_station(rt: &LibcRuntime, bench: &mut Bench, fitting: &Fitting) -> io::Result<()> {
+    match bench.put_station(fitting) {
+        Ok(()) => println!(rt, "station done"),
+        Err(fault) => println!(rt, "station refused {}", fault.number()),
+    }
+}
+
+fn tell(rt: &LibcRuntime, bench: &mut Bench, telegram: &[u8]) -> Result<(), Trouble> {
+    let mut buffer = [0; 23];
+    match bench.tell(telegram, &mut buffer) {
+        Ok(Some(n)) => println!(
+            rt,
+            "tell answer {}",
+            Spaced(buffer.get(0..n).unwrap_or(&[]))
+        )?,
+        Ok(None) => println!(rt, "tell silence")?,
+        Err(Untold::ShortBuffer) => println!(rt, "tell refused 15")?,
+        Err(Untold::NoStation) => return Err(Trouble::Line(Unread::NoStation)),
+    }
+    Ok(())
 }
