@@ -6,7 +6,6 @@ ghost use Prim.Native.Nat.{_+_, _/_, _≤_};
 ghost use lib.ListN.{length, drop};
 ghost use Rattle.std.specs.Options.{mapped};
 ghost use Rattle.std.specs.declared.option.Option.the-variants.{None, Some};
-ghost use Rattle.telegram.specs.Forms.{bySerial};
 ghost use Rattle.telegram.specs.Parts.{fields};
 ghost use Rattle.telegram.specs.Writes.{answer};
 ghost use Rattle.telegram.proofs.Questions.{IsQuestion};
@@ -22,6 +21,7 @@ use crate::kind::Kind;
 use crate::kind::Refusal;
 use serial::has_no_zero;
 use telegram::Telegram;
+use telegram::is_by_serial;
 use telegram::open_telegram;
 use telegram::write_answer;
 use telegram::write_exception;
@@ -35,12 +35,6 @@ pub enum Call<'a> {
     // a command that it does not know
     Unknown(u8),
     Asked(Telegram<'a>),
-}
-
-fn is_by_serial(command: u8) -> bool
-    ensures { λ r. ⌜ r ≡ bySerial command ⌝ }
-{
-    matches!(command, 0x43 | 0x44 | 0x46 | 0x50)
 }
 
 impl Device {

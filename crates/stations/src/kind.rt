@@ -2,6 +2,8 @@
 ghost use mathlib.Core.Path.{_≡_};
 ghost use Rattle.stations.specs.Kinds.{knows, longest, mostRead, speaks, rangeOf, action, codeOf};
 
+use telegram::is_by_serial;
+
 #[derive(Clone, Copy)]
 pub enum Kind {
     Fan,
@@ -102,7 +104,7 @@ impl Kind {
     {
         match self {
             Kind::Fan => {
-                if matches!(command, 0x43 | 0x44 | 0x46 | 0x50) {
+                if is_by_serial(command) {
                     6
                 } else {
                     9

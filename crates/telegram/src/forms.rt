@@ -161,9 +161,16 @@ pub fn spanned(has: bool, n: usize) -> usize
     if has { n } else { 0 }
 }
 
+// Whether a command addresses by serial: 43, 44, 46 and 50 do.
+pub fn is_by_serial(command: u8) -> bool
+    ensures { λ r. ⌜ r ≡ bySerial command ⌝ }
+{
+    matches!(command, 0x43 | 0x44 | 0x46 | 0x50)
+}
+
 // Whether an exception to the command holds the serial.
 pub fn tells_serial(command: u8, code: u8) -> bool
     ensures { λ r. ⌜ r ≡ tellsSerial command code ⌝ }
 {
-    matches!(command, 0x43 | 0x44 | 0x46 | 0x50) && code != 1
+    is_by_serial(command) && code != 1
 }

@@ -13,6 +13,7 @@ pub use envelope::open_telegram;
 pub use fault::AnswerFault;
 pub use fault::AnswerFromTelegram;
 pub use fault::TelegramFault;
+pub use forms::is_by_serial;
 pub use message::Telegram;
 pub use reading::read_answer;
 pub use reading::read_question;

@@ -1,3 +1,4 @@
+pub mod Numbers
 pub mod Wall
 pub mod Telegrams
 pub mod Rules

@@ -1,4 +1,6 @@
 // What a wall shows of its sockets and stations.
+ghost use mathlib.Core.Path.{_≡_};
+ghost use Rattle.wall.specs.Numbers.{shortNumber};
 
 // A station as the wall shows it: its serial, if it has one, the address in force, the stored address, and whether it is
 // defective (a station that is not is sound).
@@ -21,3 +23,11 @@ pub struct Socket {
 // The buffer for an answer has not 23 bytes.
 #[derive(Clone, Copy, PartialEq, Eq, Debug)]
 pub struct ShortBuffer;
+
+impl ShortBuffer {
+    pub fn number(self) -> u8
+        ensures { λ r. ⌜ r ≡ shortNumber ⌝ }
+    {
+        15
+    }
+}
