@@ -1,7 +1,6 @@
 // What tells the kinds of station apart.
 ghost use mathlib.Core.Path.{_≡_};
 ghost use Rattle.stations.specs.Kinds.{knows, longest, mostRead, speaks, rangeOf, action, codeOf};
-
 use telegram::is_by_serial;
 
 #[derive(Clone, Copy)]
@@ -103,13 +102,7 @@ impl Kind {
         ensures { λ r. ⌜ r ≡ mostRead self command ⌝ }
     {
         match self {
-            Kind::Fan => {
-                if is_by_serial(command) {
-                    6
-                } else {
-                    9
-                }
-            }
+            Kind::Fan => { if is_by_serial(command) { 6 } else { 9 } }
             Kind::OlderFan => 6,
             Kind::Controller => 6,
         }
