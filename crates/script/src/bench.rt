@@ -1,6 +1,11 @@
 // What a script keeps from line to line.
+ghost use mathlib.Core.Path.{_≡_};
+ghost use Rattle.std.specs.Results.{Cases};
+ghost use Rattle.std.specs.declared.option.Option.the-variants.{None, Some};
+ghost use Rattle.script.specs.Stations.{stationFault};
 use crate::command::Fitting;
 use crate::command::Kind;
+use crate::fault::StationFault;
 use serial::Serial;
 use stations::Controller;
 use stations::ControllerStation;
@@ -30,25 +35,7 @@ enum Alone {
 #[derive(Clone, Copy)]
 pub enum Untold {
     NoStation,
-    ShortBuffer,
-}
-
-// Why no station is put on the bench.
-#[derive(Clone, Copy)]
-pub enum StationFault {
-    // the serial has a zero byte
-    Serial,
-    // the address is not 1 to 247
-    Address,
-}
-
-impl StationFault {
-    pub fn number(self) -> u8 {
-        match self {
-            StationFault::Serial => 12,
-            StationFault::Address => 13,
-        }
-    }
+    Short(ShortBuffer),
 }
 
 impl Bench {
@@ -57,7 +44,9 @@ impl Bench {
     }
 
     // Puts a new station in place of the one before, which stays where this is refused.
-    pub fn put_station(&mut self, fitting: &Fitting) -> Result<(), StationFault> {
+    pub fn put_station(&mut self, fitting: &Fitting) -> Result<(), StationFault>
+        ensures { λ r. ⌜ Cases r (λ _. stationFault (now (fitting .entry) .serial) (now (fitting .entry) .address) ≡ None) (λ e. stationFault (now (fitting .entry) .serial) (now (fitting .entry) .address) ≡ Some e) ⌝ }
+    {
         self.station = Some(Alone::new(fitting)?);
         Ok(())
     }
@@ -71,13 +60,15 @@ impl Bench {
         self.station = Some(station);
         match said {
             Ok(n) => Ok(n),
-            Err(ShortBuffer) => Err(Untold::ShortBuffer),
+            Err(short) => Err(Untold::Short(short)),
         }
     }
 }
 
 impl Alone {
-    fn new(fitting: &Fitting) -> Result<Alone, StationFault> {
+    fn new(fitting: &Fitting) -> Result<Alone, StationFault>
+        ensures { λ r. ⌜ Cases r (λ _. stationFault (now (fitting .entry) .serial) (now (fitting .entry) .address) ≡ None) (λ e. stationFault (now (fitting .entry) .serial) (now (fitting .entry) .address) ≡ Some e) ⌝ }
+    {
         let Some(serial) = Serial::from_bytes(fitting.serial) else {
             return Err(StationFault::Serial);
         };

@@ -98,8 +98,16 @@ fn read_answer_to(rt: &LibcRuntime, answer: &[u8], question: &[u8]) -> io::Resul
     };
     match telegram::read_answer_to(answer, &question) {
         Ok(telegram) => println!(rt, "read answer {}", Printed(telegram)),
-        Err(AnswerFault::Exception(code)) => println!(rt, "read answer refused 8 code={code:02X}"),
-        Err(fault) => println!(rt, "read answer refused {}", fault.number()),
+        Err(fault) => print_answer_fault(rt, fault),
+    }
+}
+
+// An exception tells its code too.
+fn print_answer_fault(rt: &LibcRuntime, fault: AnswerFault) -> io::Result<()> {
+    let number = fault.number();
+    match fault.code() {
+        Some(code) => println!(rt, "read answer refused {number} code={code:02X}"),
+        None => println!(rt, "read answer refused {number}"),
     }
 }
 
@@ -148,7 +156,7 @@ fn tell(rt: &LibcRuntime, bench: &mut Bench, telegram: &[u8]) -> Result<(), Trou
             Spaced(buffer.get(0..n).unwrap_or(&[]))
         )?,
         Ok(None) => println!(rt, "tell silence")?,
-        Err(Untold::ShortBuffer) => println!(rt, "tell refused 15")?,
+        Err(Untold::Short(short)) => println!(rt, "tell refused {}", short.number())?,
         Err(Untold::NoStation) => return Err(Trouble::Line(Unread::NoStation)),
     }
     Ok(())

@@ -4,6 +4,7 @@ use mathlib.Core.List.{List, [], _∷_, _++_}
 use Prim.Native.Nat.{ℕ, zero, suc, _+_, _-_, _*_, _/_, _%_, min}
 use lib.Dec.{eqb, leb}
 use lib.ListN.{getD, set, replicate}
+use Rattle.std.specs.Options.{isSome}
 use Rattle.telegram.specs.Answers.{isAddress}
 use Rattle.telegram.specs.Layout.{word}
 use Rattle.stations.specs.declared.kind.Kind.{Kind}
@@ -12,7 +13,7 @@ use Rattle.stations.specs.declared.kind.Action.{Action}
 use Rattle.stations.specs.declared.kind.Action.the-variants.{Echo, ReadHolding, ReadInput, WriteOne, WriteSeveral}
 use Rattle.stations.specs.declared.rights.Level.{Level}
 use Rattle.stations.specs.declared.rights.Level.the-variants.{EndCustomer}
-use Rattle.stations.specs.Rights.{mayWrite, levelSet}
+use Rattle.stations.specs.Rights.{levelFor, mayWrite, levelSet}
 
 -- the page holds the values of the registers from D000 on that are kept as written
 pub record State : Type 0 where
@@ -27,7 +28,8 @@ pub record State : Type 0 where
 abbrev pub fresh : ℕ → ℕ → Bool → State
 fresh serial address defective = record { serial = serial; address = address; stored = address; defective = defective; level = EndCustomer; page = set (replicate 331 0) 0x149 4 }
 
--- D000 acts and D002 sets the level, so both read 0; D100 is the stored address; D1A2 to D1A4 are the serial in order
+-- D000 acts and D002 sets the level, so both read 0; D100 is the stored address; D1A2 to D1A4 are the serial in order;
+-- of the others those that someone may write show what was written, and the rest read 0
 abbrev pub holdingAt : State → ℕ → ℕ
 holdingAt x r =
     cond (eqb r 0xD000 || eqb r 0xD002) 0
@@ -35,7 +37,7 @@ holdingAt x r =
     (cond (eqb r 0xD1A2) (x .serial / 4294967296 % 65536)
     (cond (eqb r 0xD1A3) (x .serial / 65536 % 65536)
     (cond (eqb r 0xD1A4) (x .serial % 65536)
-    (getD (x .page) (r - 0xD000) 0)))))
+    (cond (isSome (levelFor r)) (getD (x .page) (r - 0xD000) 0) 0)))))
 
 -- a fan's input D010 is its D001 but at most FF00, D011 tells a defect; a controller's 111 is its address
 abbrev pub inputAt : Kind → State → ℕ → ℕ

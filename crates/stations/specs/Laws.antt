@@ -6,6 +6,7 @@ use Prim.Native.Nat.{ℕ, _≤_, _<_}
 use native.Mathlib.Omega.{arith}
 use lib.Dec.{eqb, leb}
 use lib.ListN.{length}
+use Rattle.std.specs.Options.{isSome}
 use Rattle.std.specs.declared.option.Option.{Option}
 use Rattle.std.specs.declared.option.Option.the-variants.{Some, None}
 use Rattle.std.proofs.shelf.Tests.{leb-true, and-parts}
@@ -74,7 +75,7 @@ good-stays K x y b g =
         address = b .address (g .0 .address);
         stored = b .stored (g .0 .stored);
       },
-      ap (λ (s : Option ℕ). cond (speaks K) s None) same ∙ g .1 ∙ sym same,
+      ap isSome same ∙ g .1,
     )
 
 -- probe: as many answer as have the address in force
@@ -127,9 +128,9 @@ shown-serial : (speaks : Bool) (n s : ℕ) → cond speaks (Some n) None ≡ Som
 shown-serial true n s e = cc
 shown-serial false n s e = let z : _≡_ {A = ℕ} 0 1 = cc in absurd (omega arith)
 
-shown-twice : (speaks : Bool) (o : Option ℕ) → cond speaks (cond speaks o None) None ≡ cond speaks o None
-shown-twice true o = refl
-shown-twice false o = refl
+shown-or-none : (speaks : Bool) (n : ℕ) → isSome (cond speaks (Some n) None) ≡ speaks
+shown-or-none true n = refl
+shown-or-none false n = refl
 
 pub state-good : (K : Kind) (x : State) → fair (x .serial) ≡ true → isAddress (x .address) ≡ true → x .stored < 256 → GoodStation (speaks K) (Some (card K x))
 state-good K x serial address stored = (
@@ -138,7 +139,7 @@ state-good K x serial address stored = (
     address = address;
     stored = stored;
   },
-  shown-twice (speaks K) (Some (x .serial)),
+  shown-or-none (speaks K) (x .serial),
 )
 
 pub device-good : (K : Kind) (d : Device) → GoodStation (speaks K) (Some (card K (state d)))

@@ -195,13 +195,12 @@ impl Device {
 }
 
 impl Device {
-    // An answer with its data, into a buffer of 23 bytes at least.
-    fn put_answer(&self, q: &Telegram, told: &[u8], buffer: &mut [u8]) -> usize
-        requires { ⌜ 23 ≤ length (now buffer) ⌝ ∗ ⌜ Answerable (state (now self)) (fields (now q)) (now told) ⌝ }
-        ensures size { λ r. ⌜ r ≡ length (answer (answerTo (state (now (self .entry))) (fields (now (q .entry))) (now (told .entry)))) ⌝ }
-        ensures bytes { λ r. ⌜ now (buffer .exit) ≡ answer (answerTo (state (now (self .entry))) (fields (now (q .entry))) (now (told .entry))) ++ drop r (now (buffer .entry)) ⌝ }
+    // The answer to a question with its data, from the address in force now.
+    fn answer_to<'a>(&self, q: &Telegram, told: &'a [u8]) -> Telegram<'a>
+        requires { ⌜ length (now told) ≤ 19 ⌝ }
+        ensures { λ r. ⌜ fields r ≡ answerTo (state (now (self .entry))) (fields (now (q .entry))) (now (told .entry)) ⌝ }
     {
-        let answer = Telegram {
+        Telegram {
             address: self.address.value(),
             command: q.command,
             serial: self.serial.to_bytes(),
@@ -211,7 +210,16 @@ impl Device {
             size: told.len() as u8,
             code: 0,
             data: told,
-        };
+        }
+    }
+
+    // An answer with its data, into a buffer of 23 bytes at least.
+    fn put_answer(&self, q: &Telegram, told: &[u8], buffer: &mut [u8]) -> usize
+        requires { ⌜ 23 ≤ length (now buffer) ⌝ ∗ ⌜ Answerable (state (now self)) (fields (now q)) (now told) ⌝ }
+        ensures size { λ r. ⌜ r ≡ length (answer (answerTo (state (now (self .entry))) (fields (now (q .entry))) (now (told .entry)))) ⌝ }
+        ensures bytes { λ r. ⌜ now (buffer .exit) ≡ answer (answerTo (state (now (self .entry))) (fields (now (q .entry))) (now (told .entry))) ++ drop r (now (buffer .entry)) ⌝ }
+    {
+        let answer = self.answer_to(q, told);
         match write_answer(&answer, buffer) {
             Ok(n) => n,
             Err(_) => 0,

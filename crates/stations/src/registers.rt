@@ -80,7 +80,13 @@ impl Device {
             0xD1A2 => (serial / 0x1_0000_0000 % 0x1_0000) as u16,
             0xD1A3 => (serial / 0x1_0000 % 0x1_0000) as u16,
             0xD1A4 => (serial % 0x1_0000) as u16,
-            _ => self.paged(register),
+            _ => {
+                if level_for(register).is_some() {
+                    self.paged(register)
+                } else {
+                    0
+                }
+            }
         }
     }
 

@@ -1,6 +1,6 @@
 // Why a telegram is turned down, and why an answer is none to its question.
 ghost use mathlib.Core.Path.{_≡_};
-ghost use Rattle.telegram.specs.Numbers.{telegramNumber, answerNumber};
+ghost use Rattle.telegram.specs.Numbers.{telegramNumber, answerNumber, answerCode};
 ghost use Rattle.telegram.specs.declared.fault.AnswerFault.the-variants.{Broken};
 
 #[derive(Clone, Copy, PartialEq, Eq, Debug)]
@@ -55,6 +55,16 @@ impl AnswerFault {
             AnswerFault::OtherSerial => 7,
             AnswerFault::Exception(_) => 8,
             AnswerFault::Content => 9,
+        }
+    }
+
+    // The code of the exception, if it is one.
+    pub fn code(self) -> Option<u8>
+        ensures { λ r. ⌜ r ≡ answerCode self ⌝ }
+    {
+        match self {
+            AnswerFault::Exception(code) => Some(code),
+            _ => None,
         }
     }
 }

@@ -3,7 +3,7 @@ use mathlib.Core.Path.{_≡_}
 use mathlib.Core.Bool.{Bool, true, cond}
 use mathlib.Core.List.{List, [], _∷_, map}
 use Prim.Native.Nat.{ℕ, _+_, _%_, _^_, _<_}
-use Rattle.std.specs.Options.{mapped}
+use Rattle.std.specs.Options.{mapped, isSome}
 use Rattle.std.specs.declared.option.Option.{Option}
 use Rattle.std.specs.declared.option.Option.the-variants.{None, Some}
 use Rattle.wall.specs.declared.card.Card.{Card}
@@ -62,10 +62,10 @@ pub record GoodCard (c : Card) : Type 0 where
   pub address : isAddress (c .address) ≡ true
   pub stored : c .stored < 256
 
--- a socket that does not speak serials shows none
+-- a station has a serial exactly where its socket speaks serials
 abbrev pub GoodStation : Bool → Option Card → Type 0
 GoodStation speaks None = Unit {0}
-GoodStation speaks (Some c) = GoodCard c × (cond speaks (c .serial) None ≡ c .serial)
+GoodStation speaks (Some c) = GoodCard c × (isSome (c .serial) ≡ speaks)
 
 abbrev pub GoodSocket : Option Socket → Type 0
 GoodSocket None = Unit {0}
