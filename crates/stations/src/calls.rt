@@ -252,16 +252,22 @@ impl Device {
         }
     }
 
-    // Carries a question out, and answers it unless it is a plain one to address 0.
-    fn obey(&mut self, kind: Kind, q: &Telegram, buffer: &mut [u8]) -> Option<usize>
-        requires { ⌜ 23 ≤ length (now buffer) ⌝ ∗ ⌜ IsQuestion (fields (now q)) ⌝ }
+    // Carries a question out or refuses it, as was found, and answers it unless it is a plain one to address 0.
+    fn act_on(
+        &mut self,
+        kind: Kind,
+        q: &Telegram,
+        refused: Option<Refusal>,
+        buffer: &mut [u8],
+    ) -> Option<usize>
+        requires { ⌜ 23 ≤ length (now buffer) ⌝ ∗ ⌜ IsQuestion (fields (now q)) ⌝ ∗ ⌜ refused ≡ refusal kind (state (now self)) (action (now q .command)) (fields (now q)) ⌝ }
         ensures size { λ r. ⌜ r ≡ mapped length (reply kind (state (now (self .entry))) (fields (now (q .entry)))) ⌝ }
         ensures bytes { λ _. ⌜ now (buffer .exit) ≡ laid (reply kind (state (now (self .entry))) (fields (now (q .entry)))) (now (buffer .entry)) ⌝ }
         ensures after { λ _. ⌜ state (now (self .exit)) ≡ carried kind (state (now (self .entry))) (fields (now (q .entry))) ⌝ }
     {
         let action = Action::of(q.command);
         let silent = q.address == 0 && !is_by_serial(q.command);
-        match self.refusal(kind, action, q) {
+        match refused {
             Some(refusal) => {
                 if silent {
                     return None;
@@ -276,6 +282,17 @@ impl Device {
                 Some(self.put_done(kind, action, q, buffer))
             }
         }
+    }
+
+    // Does what a question asks. Whether it may is found first, by the rights held before it.
+    fn obey(&mut self, kind: Kind, q: &Telegram, buffer: &mut [u8]) -> Option<usize>
+        requires { ⌜ 23 ≤ length (now buffer) ⌝ ∗ ⌜ IsQuestion (fields (now q)) ⌝ }
+        ensures size { λ r. ⌜ r ≡ mapped length (reply kind (state (now (self .entry))) (fields (now (q .entry)))) ⌝ }
+        ensures bytes { λ _. ⌜ now (buffer .exit) ≡ laid (reply kind (state (now (self .entry))) (fields (now (q .entry)))) (now (buffer .entry)) ⌝ }
+        ensures after { λ _. ⌜ state (now (self .exit)) ≡ carried kind (state (now (self .entry))) (fields (now (q .entry))) ⌝ }
+    {
+        let refused = self.refusal(kind, Action::of(q.command), q);
+        self.act_on(kind, q, refused, buffer)
     }
 
     // Puts a telegram to a station of a kind.
