@@ -1,10 +1,10 @@
 // What a line says is to be done.
 use crate::fields::Fields;
-use crate::unread::Unread;
-use crate::words::bytes_of;
-use crate::words::decimal_byte;
-use crate::words::serial_of;
 use std::alloc::Global;
+use words::Unread;
+use words::bytes_of;
+use words::decimal_byte;
+use words::serial_of;
 
 #[derive(Drop)]
 pub enum Command {

@@ -3,17 +3,17 @@ use crate::hex::Joined;
 use crate::hex::JoinedDisplay;
 use crate::hex::SixBytes;
 use crate::hex::SixBytesDisplay;
-use crate::unread::Unread;
-use crate::unread::UnreadFromAlloc;
-use crate::words::cut_at;
-use crate::words::decimal_byte;
-use crate::words::hex_byte;
-use crate::words::hex_word;
-use crate::words::push_bytes;
-use crate::words::serial_of;
 use std::alloc::Global;
 use std::fmt;
 use telegram::Telegram;
+use words::Unread;
+use words::UnreadFromAlloc;
+use words::cut_at;
+use words::decimal_byte;
+use words::hex_byte;
+use words::hex_word;
+use words::push_bytes;
+use words::serial_of;
 
 // The fields that were given, each at most once.
 #[derive(Drop)]

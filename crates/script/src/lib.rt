@@ -5,7 +5,5 @@ mod fault;
 mod fields;
 mod hex;
 mod run;
-mod unread;
-mod words;
 
 pub use run::run_script;

@@ -8,14 +8,14 @@ use crate::fields::Printed;
 use crate::fields::PrintedDisplay;
 use crate::hex::Spaced;
 use crate::hex::SpacedDisplay;
-use crate::unread::Unread;
-use crate::unread::UnreadDisplay;
-use crate::words::lines_of;
-use crate::words::words_of;
 use std::io;
 use telegram::AnswerFault;
 use telegram::Telegram;
 use telegram::TelegramFault;
+use words::Unread;
+use words::UnreadDisplay;
+use words::lines_of;
+use words::words_of;
 
 // Why a line came to no result.
 #[derive(Drop)]

@@ -18,7 +18,8 @@ use Rattle.telegram.specs.Forms.{registers, contents, diagnostics, bySerial, an
 use Rattle.telegram.specs.Layout.{Fields, word, encode}
 use Rattle.telegram.specs.Reads.{Opened, opening, asQuestion}
 use Rattle.telegram.specs.Writes.{orNone, answer, extent, writeAs, writeAnswer}
-use Rattle.telegram.proofs.Questions.{IsQuestion, is-question, each-question, encode-spans, opening-short}
+use Rattle.telegram.proofs.Accepts.{encode-long}
+use Rattle.telegram.proofs.Questions.{IsQuestion, is-question, each-question, opening-short}
 use Rattle.stations.specs.declared.kind.Kind.{Kind}
 use Rattle.stations.specs.declared.kind.Kind.the-variants.{Fan, OlderFan, Controller}
 use Rattle.stations.specs.declared.kind.Action.{Action}
@@ -149,7 +150,7 @@ module _ (K : Kind) (x y : State) where
 
 pub answers-long : (f : Fields) → Answers f → length (f .serial) ≡ 6 → (4 ≤ length (answer f)) × (length (answer f) ≤ 23)
 answers-long f a six =
-    let long : length (answer f) ≡ 4 + extent (a .form) f = ap (λ (k : Option Form). length (encode (orNone k) f)) (a .known) ∙ encode-spans (a .form) f six in
+    let long : length (answer f) ≡ 4 + extent (a .form) f = ap (λ (k : Option Form). length (encode (orNone k) f)) (a .known) ∙ encode-long (a .form) f six in
     (omega arith, omega arith)
 
 pub answers-write : (f : Fields) → Answers f → length (f .serial) ≡ 6 → (room : ℕ) → 23 ≤ room → writeAnswer f room ≡ Ok (length (answer f))
@@ -160,7 +161,7 @@ answers-write f a six room h =
     cond-true (leb (4 + extent F f) 23) _ _ (le-leb (4 + extent F f) 23 (omega arith))
     ∙ cond-true (fits F (extent F f)) _ _ (a .fit)
     ∙ cond-true (leb 23 room) _ _ (le-leb 23 room h)
-    ∙ ap Ok (sym (encode-spans F f six)) in
+    ∙ ap Ok (sym (encode-long F f six)) in
     subst W (sym (a .known)) at
 
 -- the answer to a question that was read and is not refused is written, whatever the state it is made from

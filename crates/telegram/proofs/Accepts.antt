@@ -12,7 +12,7 @@ use Rattle.std.specs.declared.option.Option.{Option}
 use Rattle.std.specs.declared.option.Option.the-variants.{Some, None}
 use Rattle.std.specs.declared.result.Result.{Result}
 use Rattle.std.specs.declared.result.Result.the-variants.{Ok, Err}
-use Rattle.std.proofs.shelf.Lists.{length-take-le, length-drop, length-take, getD-take, getD-drop, getD-past, length-append, getD-at}
+use Rattle.std.proofs.shelf.Lists.{length-take-le, length-drop, length-take, take-at, getD-take, getD-drop, getD-past, length-append, getD-at}
 use Rattle.std.proofs.shelf.Tests.{leb-true, and-parts, cond-true, cases-lt}
 use Rattle.telegram.specs.declared.fault.TelegramFault.{TelegramFault}
 use Rattle.telegram.specs.declared.fault.TelegramFault.the-variants.{Length, Checksum, Command, FormLength, Buffer}
@@ -20,7 +20,7 @@ use Rattle.telegram.specs.declared.forms.Form.{Form}
 use Rattle.telegram.specs.Forms.{exception, tellsSerial, bySerial, doneForm, questionForm, exceptionForm, answerForm, fixed, fits}
 use Rattle.telegram.specs.Layout.{Fields, part, sealed, unsealed, isSealed, inSize, bodyOf, body, encode, decode, plain}
 use Rattle.telegram.specs.Reads.{Opened, inside, opening, andThen, readAs, asAnswer, readQuestion, readAnswer}
-use Rattle.telegram.specs.Writes.{orNone, question, answer, extent, writeAs}
+use Rattle.telegram.specs.Writes.{orNone, question, answer, extent, writeAs, filled}
 use Rattle.telegram.specs.Parts.{shown}
 use Rattle.telegram.proofs.Bodies.{Sized, Bytes, small-past, decode-body, body-decode, body-long, long-exactly}
 use Rattle.telegram.proofs.Seals.{sealed-long, opening-sealed, sealed-back}
@@ -166,22 +166,23 @@ written-as (Some F) f room n h =
     let p = write-if F (4 + extent F f) room n _ _ _ h in
     record { form = F; known = refl; short = leb-true _ _ (p .0); fit = p .1; long = p .2 }
 
+-- the length of a telegram, whatever its values
+pub encode-long : (F : Form) (f : Fields) → length (f .serial) ≡ 6 → length (encode F f) ≡ 4 + extent F f
+encode-long F f six = omega (arith, sealed-long (f .address ∷ f .command ∷ body F f), body-long F f six)
+
 module _ (f : Fields) (s : Sized f) where
   reads-as : (F : Form) → fits F (extent F f) ≡ true → readAs (Some F) (record { address = f .address; command = f .command; body = body F f }) ≡ Ok (plain F f)
-  reads-as F fit = cond-true _ _ _ (ap (fits F) (body-long F f s) ∙ fit) ∙ ap Ok (decode-body F f s)
-
-  pub encode-long : (F : Form) → length (encode F f) ≡ 4 + extent F f
-  encode-long F = omega (arith, sealed-long (f .address ∷ f .command ∷ body F f), body-long F f s)
+  reads-as F fit = cond-true _ _ _ (ap (fits F) (body-long F f (s .six)) ∙ fit) ∙ ap Ok (decode-body F f s)
 
   opens-as : (F : Form) (k : Opened → Result Fields TelegramFault) → 4 + extent F f ≤ 23 → andThen (opening (encode F f)) k ≡ k (record { address = f .address; command = f .command; body = body F f })
-  opens-as F k short = ap (λ (r : Result Opened TelegramFault). andThen r k) (opening-sealed (f .address) (f .command) (body F f) (omega (arith, body-long F f s)))
+  opens-as F k short = ap (λ (r : Result Opened TelegramFault). andThen r k) (opening-sealed (f .address) (f .command) (body F f) (omega (arith, body-long F f (s .six))))
 
   pub question-back : (room n : ℕ) → writeAs (questionForm (f .command)) f room ≡ Ok n → (n ≡ length (question f)) × (readQuestion (question f) ≡ Ok (plain (orNone (questionForm (f .command))) f))
   question-back room n h =
       let w = written-as (questionForm (f .command)) f room n h in
       let G : Option Form → Type 0 = λ found. (n ≡ length (encode (orNone found) f)) × (readQuestion (encode (orNone found) f) ≡ Ok (plain (orNone found) f)) in
       let at : G (Some (w .form)) = (
-        w .long ∙ sym (encode-long (w .form)),
+        w .long ∙ sym (encode-long (w .form) f (s .six)),
         opens-as (w .form) _ (w .short) ∙ ap (λ (found : Option Form). readAs found (record { address = f .address; command = f .command; body = body (w .form) f })) (w .known) ∙ reads-as (w .form) (w .fit),
       ) in
       subst G (sym (w .known)) at
@@ -193,7 +194,7 @@ module _ (f : Fields) (s : Sized f) where
       let G : Option Form → Type 0 = λ found. (n ≡ length (encode (orNone found) f)) × (readAnswer (encode (orNone found) f) ≡ Ok (plain (orNone found) f)) in
       let last : (e : Bool) → F ≡ exception e → getD (body F f) (length (body F f) - 1) 0 ≡ f .code = λ e is. ap (λ (H : Form). getD (body H f) (length (body H f) - 1) 0) is ∙ code-last e f in
       let at : G (Some F) = (
-        w .long ∙ sym (encode-long F),
+        w .long ∙ sym (encode-long F f (s .six)),
         opens-as F _ (w .short) ∙ ap (λ (found : Option Form). readAs found (record { address = f .address; command = f .command; body = body F f })) (steady (f .command) (f .code) _ F (w .known) last) ∙ reads-as F (w .fit),
       ) in
       subst G (sym (w .known)) at
@@ -203,6 +204,9 @@ pub made-shown : {X : Type 0} (show : X → Fields) (P : Fields → Type 0) (r :
 made-shown show P (Ok x) R e h = h (show x) (sym e)
 made-shown show P (Err x) R e h = tt
 
-pub made-written : (P : ℕ → Type 0) (r : Result ℕ TelegramFault) → ((n : ℕ) → r ≡ Ok n → P n) → made r P
-made-written P (Ok n) h = h n refl
-made-written P (Err e) h = tt
+-- what stands in the buffer up to the length that was written reads back
+pub reads-back : (read : List ℕ → Result Fields TelegramFault) (f : Fields) (telegram before after : List ℕ) (r : Result ℕ TelegramFault) → after ≡ filled r telegram before → ((n : ℕ) → r ≡ Ok n → (n ≡ length telegram) × (read telegram ≡ Ok f)) → made r (λ n. read (take n after) ≡ Ok f)
+reads-back read f telegram before after (Ok n) is back =
+    let p = back n refl in
+    ap (λ (l : List ℕ). read (take n l)) is ∙ ap read (take-at telegram (drop n before) n (sym (p .0))) ∙ p .1
+reads-back read f telegram before after (Err e) is back = tt

@@ -93,21 +93,17 @@ module _ (F : Form) (f : Fields) (s : Sized f) where
       let e6 = ap (λ (l : List ℕ). cond (F .«data») l []) p6 ∙ contents-found (F .«data») (f .contents) in
       λ i. record { address = f .address; command = f .command; serial = e0 i; subfunction = e1 i; register = e2 i; value = e3 i; size = e4 i; code = e5 i; contents = e6 i }
 
--- how long the parts are together
-pub parts-long : (F : Form) (f : Fields) (serial subfunction register value : List ℕ) → length serial ≡ 6 → length subfunction ≡ 2 → length register ≡ 2 → length value ≡ 2 → length (part (F .serial) serial) + (length (part (F .subfunction) subfunction) + (length (part (F .register) register) + (length (part (F .value) value) + (length (part (F .size) (f .size ∷ [])) + (length (part (F .code) (f .code ∷ [])) + length (part (F .«data») (f .contents))))))) ≡ extent F f
-parts-long F f serial subfunction register value h1 h2 h3 h4 =
-    let a = part-long (F .serial) 6 serial h1 in
-    let b = part-long (F .subfunction) 2 subfunction h2 in
-    let c = part-long (F .register) 2 register h3 in
-    let d = part-long (F .value) 2 value h4 in
+-- how long the body is
+pub body-long : (F : Form) (f : Fields) → length (f .serial) ≡ 6 → length (body F f) ≡ extent F f
+body-long F f six =
+    let a = part-long (F .serial) 6 (f .serial) six in
+    let b = part-long (F .subfunction) 2 (word (f .subfunction)) refl in
+    let c = part-long (F .register) 2 (word (f .register)) refl in
+    let d = part-long (F .value) 2 (word (f .value)) refl in
     let e = part-long (F .size) 1 (f .size ∷ []) refl in
     let g = part-long (F .code) 1 (f .code ∷ []) refl in
     let h = part-long (F .«data») (length (f .contents)) (f .contents) refl in
-    omega arith
-
--- how long the body is
-pub body-long : (F : Form) (f : Fields) → Sized f → length (body F f) ≡ extent F f
-body-long F f s = simp length-append (parts-long F f (f .serial) (word (f .subfunction)) (word (f .register)) (word (f .value)) (s .six) refl refl refl)
+    simp length-append (omega arith)
 
 -- from bytes to fields and back
 

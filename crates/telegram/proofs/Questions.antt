@@ -20,15 +20,9 @@ use Rattle.telegram.specs.Forms.{span, questionForm, tellsSerial, fits}
 use Rattle.telegram.specs.Layout.{Fields, word, part, seal, sealed, isSealed, inSize, bodyOf, body, encode, decode, plain, pastSerial, pastSubfunction, pastRegister, pastValue, pastSize, pastCode}
 use Rattle.telegram.specs.Reads.{Opened, inside, opening, readAs, asQuestion}
 use Rattle.telegram.specs.Writes.{orNone, question, extent, exceptionTo, exceptionLength, raised}
-use Rattle.telegram.proofs.Bodies.{Sized, parts-long, part-long, body-long, decode-body, long-enough, long-exactly}
+use Rattle.telegram.proofs.Bodies.{Sized, part-long, body-long, decode-body, long-enough, long-exactly}
 use Rattle.telegram.proofs.Seals.{sealed-long, opening-sealed}
-use Rattle.telegram.proofs.Accepts.{no-err, found-as}
-
--- the length of a telegram, whatever its values
-pub encode-spans : (F : Form) (f : Fields) → length (f .serial) ≡ 6 → length (encode F f) ≡ 4 + extent F f
-encode-spans F f six =
-    let long : length (body F f) ≡ extent F f = simp length-append (parts-long F f (f .serial) (word (f .subfunction)) (word (f .register)) (word (f .value)) six refl refl refl) in
-    omega (arith, sealed-long (f .address ∷ f .command ∷ body F f))
+use Rattle.telegram.proofs.Accepts.{no-err, found-as, encode-long}
 
 pub exception-long : (address c : ℕ) (serial : List ℕ) (code : ℕ) → length serial ≡ 6 → length (exceptionTo address c serial code) ≡ exceptionLength c code
 exception-long address c serial code six =
@@ -136,9 +130,9 @@ pub question-opens : (f : Fields) → Sized f → (F : Form) → questionForm (f
 question-opens f s F known fit short =
     let is : question f ≡ encode F f = ap (λ (k : Option Form). encode (orNone k) f) known in
     let o : Opened = record { address = f .address; command = f .command; body = body F f } in
-    let long = body-long F f s in
+    let long = body-long F f (s .six) in
     record {
-      long = ap length is ∙ encode-spans F f (s .six);
+      long = ap length is ∙ encode-long F f (s .six);
       opened = ap opening is ∙ opening-sealed (f .address) (f .command) (body F f) (omega arith);
       fields = ap (λ (k : Option Form). readAs k o) known ∙ cond-true _ _ _ (ap (fits F) long ∙ fit) ∙ ap Ok (decode-body F f s);
     }

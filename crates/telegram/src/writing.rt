@@ -6,8 +6,8 @@ ghost use Prim.Native.Nat.{_+_, _≤_};
 ghost use lib.ListN.{length, take, drop};
 ghost use Rattle.std.specs.Vec.{made};
 ghost use Rattle.std.specs.declared.result.Result.the-variants.{Ok};
-ghost use Rattle.telegram.specs.Forms.{questionForm, answerForm, fixed};
-ghost use Rattle.telegram.specs.Layout.{part, sealed, encode, plain};
+ghost use Rattle.telegram.specs.Forms.{questionForm, answerForm, span};
+ghost use Rattle.telegram.specs.Layout.{word, part, sealed, encode, plain};
 ghost use Rattle.telegram.specs.Parts.{fields};
 ghost use Rattle.telegram.specs.Reads.{readQuestion, readAnswer};
 ghost use Rattle.telegram.specs.Writes.{orNone, question, answer, extent, writeAs, writeQuestion, writeAnswer, filled, raised, exceptionTo, writeException};
@@ -20,8 +20,8 @@ use checksum::checksum;
 
 // Copies a field, if the form has it, into the buffer at a place, and returns the place after it.
 fn put(buffer: &mut [u8], at: usize, has: bool, bytes: &[u8]) -> usize
-    requires { ⌜ at + length (part has (now bytes)) ≤ length (now buffer) ⌝ }
-    ensures end { λ r. ⌜ r ≡ at + length (part has (now (bytes .entry))) ⌝ }
+    requires { ⌜ at + span has (length (now bytes)) ≤ length (now buffer) ⌝ }
+    ensures end { λ r. ⌜ r ≡ at + span has (length (now (bytes .entry))) ⌝ }
     ensures before { λ r. ⌜ take r (now (buffer .exit)) ≡ take at (now (buffer .entry)) ++ part has (now (bytes .entry)) ⌝ }
     ensures after { λ r. ⌜ drop r (now (buffer .exit)) ≡ drop r (now (buffer .entry)) ⌝ }
 {
@@ -31,6 +31,16 @@ fn put(buffer: &mut [u8], at: usize, has: bool, bytes: &[u8]) -> usize
     let end = at + bytes.len();
     buffer[at..end].copy_from_slice(bytes);
     end
+}
+
+// A field of two bytes, the high byte first.
+fn put_word(buffer: &mut [u8], at: usize, has: bool, value: u16) -> usize
+    requires { ⌜ at + span has 2 ≤ length (now buffer) ⌝ }
+    ensures end { λ r. ⌜ r ≡ at + span has 2 ⌝ }
+    ensures before { λ r. ⌜ take r (now (buffer .exit)) ≡ take at (now (buffer .entry)) ++ part has (word value) ⌝ }
+    ensures after { λ r. ⌜ drop r (now (buffer .exit)) ≡ drop r (now (buffer .entry)) ⌝ }
+{
+    put(buffer, at, has, &value.to_be_bytes())
 }
 
 // Adds the checksum of the first bytes behind them.
@@ -51,9 +61,9 @@ fn put_telegram(form: Form, q: &Telegram, buffer: &mut [u8]) -> usize
 {
     let n = put(buffer, 0, true, &[q.address, q.command]);
     let n = put(buffer, n, form.serial, &q.serial);
-    let n = put(buffer, n, form.subfunction, &q.subfunction.to_be_bytes());
-    let n = put(buffer, n, form.register, &q.register.to_be_bytes());
-    let n = put(buffer, n, form.value, &q.value.to_be_bytes());
+    let n = put_word(buffer, n, form.subfunction, q.subfunction);
+    let n = put_word(buffer, n, form.register, q.register);
+    let n = put_word(buffer, n, form.value, q.value);
     let n = put(buffer, n, form.size, &[q.size]);
     let n = put(buffer, n, form.code, &[q.code]);
     let n = put(buffer, n, form.data, q.data);

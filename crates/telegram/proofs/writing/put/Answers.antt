@@ -16,7 +16,7 @@ returns c =
     let e : part (c .args .has) b ≡ b = cond-true (c .args .has) _ _ (c .if-not-has .left) in
     let front : take (at + length b) (putMid at (at + length b - at) (c .args .buffer .now) (c .copy-from-slice .last .self)) ≡ take at (c .args .buffer .now) ++ b = search (needs, overwrites) in
     record {
-      end = ap (λ l. at + length l) (sym e);
+      end = ap (λ (n : ℕ). at + n) (sym (cond-true (c .args .has) (length b) 0 (c .if-not-has .left)));
       before = front ∙ ap (λ l. take at (c .args .buffer .now) ++ l) (sym e);
       after = search (needs, overwrites);
     }

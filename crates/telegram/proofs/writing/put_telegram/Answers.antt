@@ -1,34 +1,14 @@
-use mathlib.Core.Path.{_≡_, refl, sym, ap, _∙_}
+use mathlib.Core.Path.{_≡_, ap, _∙_}
 use mathlib.Core.List.{List, [], _∷_, _++_, append-assoc}
 use Prim.Native.Nat.{ℕ}
 use native.Mathlib.Omega.{arith}
 use borrow.Author.Needs.{needs}
-use lib.ListN.{take, drop}
-use Rattle.telegram.specs.Layout.{part, body, sealed}
+use lib.ListN.{length, take, drop}
+use Rattle.telegram.specs.Forms.{span}
+use Rattle.telegram.specs.Layout.{word, part, body, sealed}
 use Rattle.telegram.specs.Parts.{fields}
-use Rattle.telegram.proofs.Bodies.{parts-long}
 use Rattle.telegram.proofs.Grows.{nothing, grow, later}
 use Rattle.telegram.proofs.writing.put_telegram.Needs as need
-
-pub put-n-requires-6 : need.put-n-requires-6
-put-n-requires-6 c κs =
-    let all = parts-long (c .args .form) (fields (c .args .q .now)) (c .args .q .now .serial) (c .to-be-bytes .result) (c .to-be-bytes-2 .result) (c .to-be-bytes-3 .result) (search needs) (search needs) (search needs) (search needs) in
-    omega arith
-
-pub put-n-requires-7 : need.put-n-requires-7
-put-n-requires-7 c κs =
-    let all = parts-long (c .args .form) (fields (c .args .q .now)) (c .args .q .now .serial) (c .to-be-bytes .result) (c .to-be-bytes-2 .result) (c .to-be-bytes-3 .result) (search needs) (search needs) (search needs) (search needs) in
-    omega arith
-
-pub put-n-requires-8 : need.put-n-requires-8
-put-n-requires-8 c κs =
-    let all = parts-long (c .args .form) (fields (c .args .q .now)) (c .args .q .now .serial) (c .to-be-bytes .result) (c .to-be-bytes-2 .result) (c .to-be-bytes-3 .result) (search needs) (search needs) (search needs) (search needs) in
-    omega arith
-
-pub put-seal-requires : need.put-seal-requires
-put-seal-requires c κs =
-    let all = parts-long (c .args .form) (fields (c .args .q .now)) (c .args .q .now .serial) (c .to-be-bytes .result) (c .to-be-bytes-2 .result) (c .to-be-bytes-3 .result) (search needs) (search needs) (search needs) (search needs) in
-    omega arith
 
 -- eight parts one after another are the body behind its address and command
 joined : (a c : ℕ) (p1 p2 p3 p4 p5 p6 p7 : List ℕ) → ((((((((a ∷ c ∷ []) ++ p1) ++ p2) ++ p3) ++ p4) ++ p5) ++ p6) ++ p7) ≡ a ∷ c ∷ (p1 ++ (p2 ++ (p3 ++ (p4 ++ (p5 ++ (p6 ++ p7))))))
@@ -38,20 +18,19 @@ pub returns : need.returns
 returns c =
     let q = c .args .q .now in
     let F = c .args .form in
-    let all = parts-long F (fields q) (q .serial) (c .to-be-bytes .result) (c .to-be-bytes-2 .result) (c .to-be-bytes-3 .result) (search needs) (search needs) (search needs) (search needs) in
-    let g1 = grow (nothing (c .args .buffer .now)) (c .put-n .last .buffer) (c .put-n .result) _ (omega arith) (c .put-n .ensures .before) (c .put-n .ensures .after) in
+    let six : length (q .serial) ≡ 6 = search needs in
+    let serial = ap (λ (n : ℕ). span (F .serial) n) six in
+    let g1 = grow (nothing (c .args .buffer .now)) (c .put-n .last .buffer) (c .put-n .result) _ (omega (arith, c .put-n .ensures .end)) (c .put-n .ensures .before) (c .put-n .ensures .after) in
     let g2 = grow g1 (c .put-n-2 .last .buffer) (c .put-n-2 .result) _ (omega (arith, c .put-n-2 .ensures .end)) (c .put-n-2 .ensures .before) (c .put-n-2 .ensures .after) in
-    let g3 = grow g2 (c .put-n-3 .last .buffer) (c .put-n-3 .result) _ (omega (arith, c .put-n-3 .ensures .end)) (c .put-n-3 .ensures .before) (c .put-n-3 .ensures .after) in
-    let g4 = grow g3 (c .put-n-4 .last .buffer) (c .put-n-4 .result) _ (omega (arith, c .put-n-4 .ensures .end)) (c .put-n-4 .ensures .before) (c .put-n-4 .ensures .after) in
-    let g5 = grow g4 (c .put-n-5 .last .buffer) (c .put-n-5 .result) _ (omega (arith, c .put-n-5 .ensures .end)) (c .put-n-5 .ensures .before) (c .put-n-5 .ensures .after) in
-    let g6 = grow g5 (c .put-n-6 .last .buffer) (c .put-n-6 .result) _ (omega (arith, c .put-n-6 .ensures .end)) (c .put-n-6 .ensures .before) (c .put-n-6 .ensures .after) in
-    let g7 = grow g6 (c .put-n-7 .last .buffer) (c .put-n-7 .result) _ (omega (arith, c .put-n-7 .ensures .end)) (c .put-n-7 .ensures .before) (c .put-n-7 .ensures .after) in
-    let g8 = grow g7 (c .put-n-8 .last .buffer) (c .put-n-8 .result) _ (omega (arith, c .put-n-8 .ensures .end)) (c .put-n-8 .ensures .before) (c .put-n-8 .ensures .after) in
-    let front : take (c .put-n-8 .result) (c .put-n-8 .last .buffer) ≡ q .address ∷ q .command ∷ body F (fields q) =
-    g8 .front
-    ∙ joined (q .address) (q .command) (part (F .serial) (q .serial)) (part (F .subfunction) (c .to-be-bytes .result)) (part (F .register) (c .to-be-bytes-2 .result)) (part (F .value) (c .to-be-bytes-3 .result)) (part (F .size) (q .size ∷ [])) (part (F .code) (q .code ∷ [])) (part (F .«data») (q .«data» .now))
-    ∙ (λ i. q .address ∷ q .command ∷ (part (F .serial) (q .serial) ++ (part (F .subfunction) (c .to-be-bytes .ensures i) ++ (part (F .register) (c .to-be-bytes-2 .ensures i) ++ (part (F .value) (c .to-be-bytes-3 .ensures i) ++ (part (F .size) (q .size ∷ []) ++ (part (F .code) (q .code ∷ []) ++ part (F .«data») (q .«data» .now)))))))) in
+    let g3 = grow g2 (c .put-word-n .last .buffer) (c .put-word-n .result) _ (omega (arith, c .put-word-n .ensures .end)) (c .put-word-n .ensures .before) (c .put-word-n .ensures .after) in
+    let g4 = grow g3 (c .put-word-n-2 .last .buffer) (c .put-word-n-2 .result) _ (omega (arith, c .put-word-n-2 .ensures .end)) (c .put-word-n-2 .ensures .before) (c .put-word-n-2 .ensures .after) in
+    let g5 = grow g4 (c .put-word-n-3 .last .buffer) (c .put-word-n-3 .result) _ (omega (arith, c .put-word-n-3 .ensures .end)) (c .put-word-n-3 .ensures .before) (c .put-word-n-3 .ensures .after) in
+    let g6 = grow g5 (c .put-n-3 .last .buffer) (c .put-n-3 .result) _ (omega (arith, c .put-n-3 .ensures .end)) (c .put-n-3 .ensures .before) (c .put-n-3 .ensures .after) in
+    let g7 = grow g6 (c .put-n-4 .last .buffer) (c .put-n-4 .result) _ (omega (arith, c .put-n-4 .ensures .end)) (c .put-n-4 .ensures .before) (c .put-n-4 .ensures .after) in
+    let g8 = grow g7 (c .put-n-5 .last .buffer) (c .put-n-5 .result) _ (omega (arith, c .put-n-5 .ensures .end)) (c .put-n-5 .ensures .before) (c .put-n-5 .ensures .after) in
+    let front : take (c .put-n-5 .result) (c .put-n-5 .last .buffer) ≡ q .address ∷ q .command ∷ body F (fields q) =
+    g8 .front ∙ joined (q .address) (q .command) (part (F .serial) (q .serial)) (part (F .subfunction) (word (q .subfunction))) (part (F .register) (word (q .register))) (part (F .value) (word (q .value))) (part (F .size) (q .size ∷ [])) (part (F .code) (q .code ∷ [])) (part (F .«data») (q .«data» .now)) in
     record {
-      end = omega (arith, c .put-n .ensures .end, c .put-n-2 .ensures .end, c .put-n-3 .ensures .end, c .put-n-4 .ensures .end, c .put-n-5 .ensures .end, c .put-n-6 .ensures .end, c .put-n-7 .ensures .end, c .put-n-8 .ensures .end, c .put-seal .ensures .end);
-      bytes = c .put-seal .ensures .bytes ∙ (λ i. sealed (front i) ++ drop (c .put-seal .result) (c .put-n-8 .last .buffer)) ∙ ap (λ (l : List ℕ). sealed (q .address ∷ q .command ∷ body F (fields q)) ++ l) (later (c .put-n-8 .result) (c .put-seal .result) _ _ (omega (arith, c .put-seal .ensures .end)) (g8 .rest));
+      end = omega (arith, c .put-n .ensures .end, c .put-n-2 .ensures .end, c .put-word-n .ensures .end, c .put-word-n-2 .ensures .end, c .put-word-n-3 .ensures .end, c .put-n-3 .ensures .end, c .put-n-4 .ensures .end, c .put-n-5 .ensures .end, c .put-seal .ensures .end);
+      bytes = c .put-seal .ensures .bytes ∙ (λ i. sealed (front i) ++ drop (c .put-seal .result) (c .put-n-5 .last .buffer)) ∙ ap (λ (l : List ℕ). sealed (q .address ∷ q .command ∷ body F (fields q)) ++ l) (later (c .put-n-5 .result) (c .put-seal .result) _ _ (omega (arith, c .put-seal .ensures .end)) (g8 .rest));
     }
