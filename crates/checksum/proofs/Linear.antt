@@ -1,12 +1,12 @@
 -- The run over two parts, and the step by the table: the eight shifts let the bits above the low byte through untouched.
 use mathlib.Core.Path.{_≡_, refl, sym, ap, _∙_}
 use mathlib.Core.Bool.{Bool, true, false, cond}
-use mathlib.Core.List.{List, [], _∷_, _++_}
-use Prim.Native.Nat.{ℕ, suc, _+_, _*_, _/_, _%_, _^_, _<_}
+use mathlib.Core.List.{[], _∷_}
+use Prim.Native.Nat.{ℕ, suc, _*_, _/_, _%_, _^_, _<_}
 use native.Mathlib.Omega.{arith}
 use lib.Bits.{bitXor, xor-shr, xor-mod, xor-assoc, xor-zero-l, xor-zero-r, xor-shifted, shifted-half, shifted-even}
 use lib.Dec.{eqb}
-use Rattle.checksum.specs.Crc.{shift, eight, next, crcFrom, GoesOn}
+use Rattle.checksum.specs.Crc.{shift, eight, next, GoesOn}
 
 pub goes-on : GoesOn
 goes-on c [] back = refl

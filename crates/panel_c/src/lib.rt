@@ -2,7 +2,6 @@
 // no function asks anything of its caller beyond the types.
 ghost use mathlib.Core.Path.{_≡_};
 ghost use Prim.Native.Nat.{_+_, _≤_};
-ghost use lib.ListN.{length};
 ghost use Rattle.std.specs.declared.result.Result.the-variants.{Ok};
 ghost use Rattle.checksum.specs.Crc.{crc};
 ghost use Rattle.telegram.specs.Reads.{readQuestion};

@@ -1,5 +1,5 @@
 -- Six bytes and their number, the order of both, and lists of bytes under a mask.
-use mathlib.Core.Path.{_≡_, refl, sym, _∙_, ap}
+use mathlib.Core.Path.{_≡_, refl, _∙_, ap}
 use mathlib.Core.Bool.{Bool, true, false, cond, not, _||_}
 use mathlib.Core.List.{List, [], _∷_}
 use Prim.Native.Nat.{ℕ, _+_, _*_, _/_, _%_, _^_, _<_}
@@ -23,9 +23,6 @@ spelled (a ∷ b ∷ c ∷ d ∷ []) h = absurd (omega arith)
 spelled (a ∷ b ∷ c ∷ d ∷ e ∷ []) h = absurd (omega arith)
 spelled (a ∷ b ∷ c ∷ d ∷ e ∷ f ∷ []) h = refl
 spelled (a ∷ b ∷ c ∷ d ∷ e ∷ f ∷ g ∷ bs) h = absurd (omega arith)
-
-pub six-length : (v : ℕ) → length (six v) ≡ 6
-six-length v = refl
 
 -- the six bytes of the number that six bytes make are those bytes
 pub six-is : (v a b c d e f : ℕ) → a < 256 → b < 256 → c < 256 → d < 256 → e < 256 → f < 256 → v ≡ a * 1099511627776 + b * 4294967296 + c * 16777216 + d * 65536 + e * 256 + f → six v ≡ a ∷ b ∷ c ∷ d ∷ e ∷ f ∷ []

@@ -1,5 +1,4 @@
 -- The six bytes of a number, the numbers that are serials, masks, and the order of bytes.
-use mathlib.Core.Path.{_≡_}
 use mathlib.Core.Bool.{Bool, true, false, cond}
 use mathlib.Core.List.{List, [], _∷_}
 use Prim.Native.Nat.{ℕ, _/_, _%_, _^_}

@@ -1,6 +1,6 @@
 -- What a station answers to any list of bytes, and what it becomes.
 use mathlib.Core.Bool.{Bool, true, false, cond, not, _&&_, _||_}
-use mathlib.Core.List.{List, [], _∷_}
+use mathlib.Core.List.{List, []}
 use Prim.Native.Nat.{ℕ, _+_, _*_}
 use lib.Dec.{eqb, leb}
 use lib.ListN.{length}
@@ -16,7 +16,6 @@ use Rattle.telegram.specs.Reads.{Opened, opening, asQuestion}
 use Rattle.telegram.specs.Writes.{answer, exceptionTo}
 use Rattle.wall.specs.declared.card.Card.{Card}
 use Rattle.stations.specs.declared.kind.Kind.{Kind}
-use Rattle.stations.specs.declared.kind.Kind.the-variants.{Fan, OlderFan, Controller}
 use Rattle.stations.specs.declared.kind.Action.{Action}
 use Rattle.stations.specs.declared.kind.Action.the-variants.{Echo, ReadHolding, ReadInput, WriteOne, WriteSeveral}
 use Rattle.stations.specs.declared.kind.Refusal.{Refusal}

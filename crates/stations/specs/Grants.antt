@@ -1,12 +1,11 @@
 -- A question that is not refused stays within its registers and its answer within a telegram.
-use mathlib.Core.Path.{_≡_, refl, sym, ap, _∙_}
+use mathlib.Core.Path.{_≡_, refl}
 use mathlib.Core.Bool.{Bool, true, false, cond, not, _&&_}
 use mathlib.Core.List.{List}
 use Prim.Native.Nat.{ℕ, _+_, _*_, _/_, _<_, _≤_}
 use native.Mathlib.Omega.{arith}
 use lib.Dec.{eqb, leb}
 use lib.ListN.{length}
-use Rattle.std.specs.declared.option.Option.{Option}
 use Rattle.std.specs.declared.option.Option.the-variants.{Some, None}
 use Rattle.std.proofs.shelf.Tests.{leb-true, eqb-true, and-parts}
 use Rattle.telegram.specs.Layout.{Fields}
@@ -14,7 +13,6 @@ use Rattle.stations.specs.declared.kind.Kind.{Kind}
 use Rattle.stations.specs.declared.kind.Kind.the-variants.{Fan, OlderFan, Controller}
 use Rattle.stations.specs.declared.kind.Action.{Action}
 use Rattle.stations.specs.declared.kind.Action.the-variants.{Echo, ReadHolding, ReadInput, WriteOne, WriteSeveral}
-use Rattle.stations.specs.declared.kind.Refusal.{Refusal}
 use Rattle.stations.specs.declared.kind.Refusal.the-variants.{Register, Count, Write}
 use Rattle.stations.specs.Kinds.{mostRead, holding, input, rangeOf}
 use Rattle.stations.specs.Device.{State}

@@ -164,10 +164,6 @@ answers-write f a six room h =
     ∙ ap Ok (sym (encode-long F f six)) in
     subst W (sym (a .known)) at
 
--- the answer to a question that was read and is not refused is written, whatever the state it is made from
-pub done-writes : (K : Kind) (x : State) (o : Opened) (q : Fields) → asQuestion o ≡ Ok q → length (o .body) ≤ 19 → refusal K x (action (q .command)) q ≡ None → (y : State) (room : ℕ) → 23 ≤ room → writeAnswer (done K y q) room ≡ Ok (length (answer (done K y q)))
-done-writes K x o q read short go y room h = answers-write (done K y q) (done-answers K x y q (is-question o q read short) go) refl room h
-
 -- a question that a station takes was read from a telegram
 
 untaken : (q : Fields) → nothing ≡ asked q → ⊥
@@ -195,7 +191,3 @@ pub asked-question : (K : Kind) (x : State) (t : List ℕ) (q : Fields) → call
 asked-question K x t q h =
     let o = taken-opened K x (length t) (opening t) q h in
     is-question (o .0) q (o .2) (opening-short t (o .0) (o .1))
-
--- so the answer to it is written, where it is not refused
-pub asked-writes : (K : Kind) (x : State) (t : List ℕ) (q : Fields) → call K x t ≡ asked q → refusal K x (action (q .command)) q ≡ None → (y : State) (room : ℕ) → 23 ≤ room → writeAnswer (done K y q) room ≡ Ok (length (answer (done K y q)))
-asked-writes K x t q h go y room r = answers-write (done K y q) (done-answers K x y q (asked-question K x t q h) go) refl room r

@@ -1,25 +1,25 @@
 -- What is written reads as the same fields, and what is accepted is what its fields write.
 use mathlib.Core.Path.{_≡_, refl, sym, ap, subst, _∙_}
-use mathlib.Core.Bool.{Bool, true, false, cond, not, _&&_, _||_}
+use mathlib.Core.Bool.{Bool, true, false, cond}
 use mathlib.Core.Logic.{inl, inr}
-use mathlib.Core.List.{List, [], _∷_, _++_}
-use Prim.Native.Nat.{ℕ, suc, _+_, _-_, _<_, _≤_}
+use mathlib.Core.List.{List, [], _∷_}
+use Prim.Native.Nat.{ℕ, suc, _+_, _-_, _≤_}
 use native.Mathlib.Omega.{arith}
-use lib.Dec.{eqb, leb, ltb}
+use lib.Dec.{ltb}
 use lib.ListN.{length, getD, take, drop}
 use Rattle.std.specs.Vec.{made}
 use Rattle.std.specs.declared.option.Option.{Option}
 use Rattle.std.specs.declared.option.Option.the-variants.{Some, None}
 use Rattle.std.specs.declared.result.Result.{Result}
 use Rattle.std.specs.declared.result.Result.the-variants.{Ok, Err}
-use Rattle.std.proofs.shelf.Lists.{length-take-le, length-drop, length-take, take-at, getD-take, getD-drop, getD-past, length-append, getD-at}
+use Rattle.std.proofs.shelf.Lists.{length-take, take-at, getD-take, getD-drop, getD-past, length-append, getD-at}
 use Rattle.std.proofs.shelf.Tests.{leb-true, and-parts, cond-true, cases-lt}
 use Rattle.telegram.specs.declared.fault.TelegramFault.{TelegramFault}
 use Rattle.telegram.specs.declared.fault.TelegramFault.the-variants.{Length, Checksum, Command, FormLength, Buffer}
 use Rattle.telegram.specs.declared.forms.Form.{Form}
 use Rattle.telegram.specs.Forms.{exception, tellsSerial, bySerial, doneForm, questionForm, exceptionForm, answerForm, fixed, fits}
 use Rattle.telegram.specs.Layout.{Fields, part, sealed, unsealed, isSealed, inSize, bodyOf, body, encode, decode, plain}
-use Rattle.telegram.specs.Reads.{Opened, inside, opening, andThen, readAs, asAnswer, readQuestion, readAnswer}
+use Rattle.telegram.specs.Reads.{Opened, inside, opening, andThen, readAs, readQuestion, readAnswer}
 use Rattle.telegram.specs.Writes.{orNone, question, answer, extent, writeAs, filled}
 use Rattle.telegram.specs.Parts.{shown}
 use Rattle.telegram.proofs.Bodies.{Sized, Bytes, small-past, decode-body, body-decode, body-long, long-exactly}

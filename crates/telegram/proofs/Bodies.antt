@@ -2,13 +2,13 @@
 use mathlib.Core.Path.{_≡_, refl, sym, ap, _∙_}
 use mathlib.Core.Bool.{Bool, true, false, cond}
 use mathlib.Core.List.{List, [], _∷_, _++_, map}
-use Prim.Native.Nat.{ℕ, _+_, _-_, _*_, _/_, _%_, _<_, _≤_}
+use Prim.Native.Nat.{ℕ, _+_, _-_, _/_, _%_, _<_, _≤_}
 use native.Mathlib.Omega.{arith}
 use lib.Dec.{eqb, leb}
 use lib.ListN.{length, getD, take, drop}
 use Rattle.std.specs.Iters.{counting}
 use Rattle.std.proofs.shelf.Counted.{fill-by-all}
-use Rattle.std.proofs.shelf.Lists.{length-take-le, getD-take, getD-drop, take-append-drop, take-at, drop-at, drop-all, length-append, length-drop}
+use Rattle.std.proofs.shelf.Lists.{length-take-le, getD-take, getD-drop, take-append-drop, take-at, drop-at, length-append, length-drop}
 use Rattle.std.proofs.shelf.Tests.{eqb-true, leb-true}
 use Rattle.telegram.specs.declared.forms.Form.{Form}
 use Rattle.telegram.specs.Forms.{span, fixed, fits}

@@ -4,7 +4,7 @@ use mathlib.Core.List.{List, [], _++_}
 use Prim.Native.Nat.{ℕ, _+_, _-_, _≤_}
 use native.Mathlib.Omega.{arith}
 use lib.ListN.{take, drop}
-use Rattle.std.proofs.shelf.Lists.{drop-drop, take-append-drop}
+use Rattle.std.proofs.shelf.Lists.{drop-drop}
 
 -- now the buffer has the bytes bs in its first n places, and past them what it had before
 pub record Grown (before : List ℕ) (n : ℕ) (bs now : List ℕ) : Type 0 where
@@ -23,6 +23,3 @@ later m r x y h same =
 pub grow : {e x bs : List ℕ} {m : ℕ} → Grown e m bs x → (y : List ℕ) (r : ℕ) (ys : List ℕ) → m ≤ r → take r y ≡ take m x ++ ys → drop r y ≡ drop r x → Grown e r (bs ++ ys) y
 grow {e} {x} {bs} {m} g y r ys h front rest =
     record { front = front ∙ ap (λ l. l ++ ys) (g .front); rest = rest ∙ later m r x e h (g .rest) }
-
-pub grown-is : {e x bs : List ℕ} {n : ℕ} → Grown e n bs x → x ≡ bs ++ drop n e
-grown-is {e} {x} {bs} {n} g = sym (take-append-drop n x) ∙ ap (λ l. l ++ drop n x) (g .front) ∙ ap (λ l. bs ++ l) (g .rest)

@@ -17,7 +17,7 @@ use Rattle.telegram.specs.declared.fault.TelegramFault.{TelegramFault}
 use Rattle.telegram.specs.declared.fault.TelegramFault.the-variants.{Length, Checksum}
 use Rattle.telegram.specs.declared.forms.Form.{Form}
 use Rattle.telegram.specs.Forms.{span, questionForm, tellsSerial, fits}
-use Rattle.telegram.specs.Layout.{Fields, word, part, seal, sealed, isSealed, inSize, bodyOf, body, encode, decode, plain, pastSerial, pastSubfunction, pastRegister, pastValue, pastSize, pastCode}
+use Rattle.telegram.specs.Layout.{Fields, part, seal, sealed, isSealed, inSize, bodyOf, body, encode, decode, plain, pastSerial, pastSubfunction, pastRegister, pastValue, pastSize, pastCode}
 use Rattle.telegram.specs.Reads.{Opened, inside, opening, readAs, asQuestion}
 use Rattle.telegram.specs.Writes.{orNone, question, extent, exceptionTo, exceptionLength, raised}
 use Rattle.telegram.proofs.Bodies.{Sized, part-long, body-long, decode-body, long-enough, long-exactly}

@@ -1,17 +1,16 @@
 -- A telegram sealed by its checksum, and opened.
 use mathlib.Core.Path.{_≡_, refl, sym, ap, _∙_}
-use mathlib.Core.Bool.{Bool, true, false, cond, _&&_}
+use mathlib.Core.Bool.{true}
 use mathlib.Core.List.{List, [], _∷_, _++_}
-use Prim.Native.Nat.{ℕ, _+_, _-_, _/_, _%_, _<_, _≤_}
+use Prim.Native.Nat.{ℕ, _+_, _-_, _/_, _%_, _≤_}
 use native.Mathlib.Omega.{arith}
 use lib.ListN.{length, getD, take, drop}
-use Rattle.std.specs.declared.result.Result.the-variants.{Ok, Err}
-use Rattle.std.proofs.shelf.Lists.{take-at, drop-all, drop-more, getD-at, getD-append-add, take-append-drop, length-append, length-take-le, take-append-le, drop-at}
-use Rattle.std.proofs.shelf.Tests.{eq-eqb, eqb-true, le-leb, leb-true, and-from, and-parts, cond-true}
+use Rattle.std.specs.declared.result.Result.the-variants.{Ok}
+use Rattle.std.proofs.shelf.Lists.{take-at, drop-all, drop-more, getD-at, getD-append-add, take-append-drop, length-append}
+use Rattle.std.proofs.shelf.Tests.{eq-eqb, eqb-true, le-leb, and-from, and-parts, cond-true}
 use Rattle.checksum.specs.Crc.{crc}
-use Rattle.telegram.specs.declared.fault.TelegramFault.the-variants.{Length, Checksum}
 use Rattle.telegram.specs.Layout.{seal, sealed, unsealed, isSealed, inSize, bodyOf}
-use Rattle.telegram.specs.Reads.{Opened, inside, opening}
+use Rattle.telegram.specs.Reads.{inside, opening}
 
 pub sealed-long : (b : List ℕ) → length (sealed b) ≡ length b + 2
 unfolding sealed

@@ -1,5 +1,5 @@
 -- Whether an answer is one to a question: the first question that fails, in the fixed order.
-use mathlib.Core.Bool.{Bool, true, false, cond, not, _&&_, _||_}
+use mathlib.Core.Bool.{Bool, true, cond, not, _&&_, _||_}
 use Prim.Native.Nat.{ℕ, _+_, _*_}
 use lib.Dec.{eqb, leb}
 use lib.ListN.{length}
@@ -12,7 +12,6 @@ use Rattle.telegram.specs.declared.fault.AnswerFault.{AnswerFault}
 use Rattle.telegram.specs.declared.fault.AnswerFault.the-variants.{Broken, OtherCommand, OtherAddress, OtherSerial, Exception, Content}
 use Rattle.telegram.specs.Forms.{answerForm}
 use Rattle.telegram.specs.Layout.{Fields}
-use Rattle.telegram.specs.Reads.{readAnswer}
 use Rattle.telegram.specs.Writes.{orNone}
 
 abbrev pub isAddress : ℕ → Bool

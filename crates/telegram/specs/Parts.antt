@@ -1,6 +1,4 @@
 -- What the structs of the code hold, as values.
-use mathlib.Core.List.{List}
-use Prim.Native.Nat.{ℕ}
 use Rattle.std.specs.declared.result.Result.{Result}
 use Rattle.std.specs.declared.result.Result.the-variants.{Ok, Err}
 use Rattle.telegram.specs.declared.message.Telegram.{Telegram}

@@ -1,5 +1,5 @@
 -- What reading a telegram gives: the first refusal in the fixed order, or its fields.
-use mathlib.Core.Bool.{Bool, cond}
+use mathlib.Core.Bool.{cond}
 use mathlib.Core.List.{List}
 use Prim.Native.Nat.{ℕ, _-_}
 use lib.ListN.{length, getD}

@@ -1,5 +1,5 @@
 -- What writing a telegram gives: the first refusal in the fixed order, or the length; and what the buffer holds then.
-use mathlib.Core.Bool.{Bool, true, false, cond, not, _&&_}
+use mathlib.Core.Bool.{false, cond, not}
 use mathlib.Core.List.{List, [], _∷_, _++_}
 use Prim.Native.Nat.{ℕ, _+_}
 use lib.Dec.{leb, ltb}
@@ -12,7 +12,7 @@ use Rattle.telegram.specs.declared.fault.TelegramFault.{TelegramFault}
 use Rattle.telegram.specs.declared.fault.TelegramFault.the-variants.{Length, Command, FormLength, Buffer}
 use Rattle.telegram.specs.declared.forms.Form.{Form}
 use Rattle.telegram.specs.Forms.{questionForm, answerForm, tellsSerial, exception, span, fixed, fits}
-use Rattle.telegram.specs.Layout.{Fields, part, sealed, encode, plain}
+use Rattle.telegram.specs.Layout.{Fields, part, sealed, encode}
 
 -- a command that is not known has no fields between it and the checksum
 abbrev pub noFields : Form

@@ -1,6 +1,5 @@
 // An answer held against the question that was asked.
 ghost use mathlib.Core.Path.{_≡_};
-ghost use lib.ListN.{length};
 ghost use Rattle.std.specs.shelf.Text.{sameBytes};
 ghost use Rattle.telegram.specs.Answers.{fromAddress, holdsSerial, fromSerial, contentOf, heldAgainst, readAnswerTo};
 ghost use Rattle.telegram.specs.Parts.{fields, shown};

@@ -9,7 +9,7 @@ use Rattle.std.specs.declared.option.Option.{Option}
 use Rattle.std.specs.declared.option.Option.the-variants.{None, Some}
 use Rattle.serial.specs.Six.{six, noZero, fitting}
 use Rattle.telegram.specs.Answers.{isAddress}
-use Rattle.telegram.specs.Layout.{Fields, word, inSize, isSealed}
+use Rattle.telegram.specs.Layout.{word, inSize, isSealed}
 use Rattle.telegram.specs.Writes.{exceptionTo}
 use Rattle.telegram.specs.Writes as writes
 use Rattle.wall.specs.declared.card.Card.{Card}

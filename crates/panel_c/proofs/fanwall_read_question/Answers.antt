@@ -1,9 +1,8 @@
-use mathlib.Core.Path.{_≡_, refl, sym, ap, _∙_}
+use mathlib.Core.Path.{_≡_, sym, ap, _∙_}
 use mathlib.Core.List.{List}
 use Prim.Native.Nat.{ℕ}
 use native.Mathlib.Omega.{arith}
 use lib.ListN.{length, take, drop}
-use borrow.Author.Needs.{needs}
 use Rattle.std.specs.declared.result.Result.{Result}
 use Rattle.std.specs.declared.result.Result.the-variants.{Ok}
 use Rattle.telegram.specs.declared.fault.TelegramFault.{TelegramFault}
@@ -11,7 +10,7 @@ use Rattle.telegram.specs.Layout.{Fields}
 use Rattle.telegram.specs.Parts.{fields}
 use Rattle.telegram.specs.Reads.{readQuestion}
 use Rattle.panel_c.specs.declared.fields.PanelFields.{PanelFields}
-use Rattle.panel_c.specs.Panel.{reading, located, fieldsWith, dataOf}
+use Rattle.panel_c.specs.Panel.{reading, fieldsWith}
 use Rattle.panel_c.proofs.Lies.{found}
 use Rattle.panel_c.proofs.fanwall_read_question.Needs as need
 

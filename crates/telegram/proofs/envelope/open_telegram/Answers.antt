@@ -1,4 +1,4 @@
-use mathlib.Core.Path.{_≡_, refl, sym, ap, _∙_}
+use mathlib.Core.Path.{_≡_, sym, ap, _∙_}
 use mathlib.Core.Bool.{true}
 use mathlib.Core.List.{List}
 use Prim.Native.Nat.{ℕ, _-_, _≤_}
@@ -8,7 +8,6 @@ use Rattle.std.specs.declared.result.Result.the-variants.{Ok}
 use Rattle.std.proofs.shelf.Lists.{take-rest, length-drop}
 use Rattle.std.proofs.shelf.Tests.{le-leb, and-from, cond-true}
 use Rattle.telegram.specs.Layout.{inSize, isSealed, bodyOf}
-use Rattle.telegram.specs.Reads.{Opened}
 use Rattle.telegram.proofs.envelope.open_telegram.Needs as need
 
 pub returns : need.returns

@@ -4,7 +4,7 @@ use Rattle.std.specs.declared.option.Option.the-variants.{None}
 use Rattle.telegram.specs.Parts.{fields}
 use Rattle.stations.specs.declared.kind.Action.{Action}
 use Rattle.stations.specs.Calls.{refusal, told}
-use Rattle.stations.specs.Grants.{Granted, Answerable, carry-fits}
+use Rattle.stations.specs.Grants.{Answerable, carry-fits}
 use Rattle.stations.specs.Kinds.{action}
 use Rattle.stations.specs.Parts.{state}
 use Rattle.stations.specs.Sizes.{told-short, done-answers}

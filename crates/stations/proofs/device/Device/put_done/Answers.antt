@@ -1,4 +1,4 @@
-use mathlib.Core.Path.{_≡_, subst}
+use mathlib.Core.Path.{subst}
 use Rattle.telegram.specs.Parts.{fields}
 use Rattle.stations.specs.declared.kind.Action.{Action}
 use Rattle.stations.specs.Calls.{told}
