@@ -1,4 +1,6 @@
-// A script with lines that are not read: the run goes on, and tells by its last line what it would end with.
+//! A script with lines that are not read: the run goes on, and tells by its last line what it would end with.
+#![tactic(auto)]
+
 use script::run_script;
 use std::io;
 use std::io::Read;

@@ -1,4 +1,6 @@
-// Lines on the wall that are not read, among a few that are: the run goes on, and tells by its last line what it would end with.
+//! Lines on the wall that are not read, among a few that are: the run goes on, and tells by its last line what it would end with.
+#![tactic(auto)]
+
 use script::run_script;
 use std::io;
 use std::io::Read;

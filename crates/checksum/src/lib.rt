@@ -1,5 +1,7 @@
-// The checksum of a telegram: CRC-16/Modbus, by a table.
-// What it is meant to be stands in specs/Crc.antt, bit by bit; the table and the step by the table are proved to be that.
+//! The checksum of a telegram: CRC-16/Modbus, by a table.
+//! What it is meant to be stands in specs/Crc.antt, bit by bit; the table and the step by the table are proved to be that.
+#![tactic(auto)]
+
 ghost use Rattle.std.specs.Prelude.{◌≡◌, ◌++◌};
 ghost use Rattle.checksum.specs.Crc.{eight, next, crc, crc_from, GoesOn};
 

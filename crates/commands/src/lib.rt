@@ -1,4 +1,6 @@
-// What a script can do with telegrams and with a line of stations, each with what it prints.
+//! What a script can do with telegrams and with a line of stations, each with what it prints.
+#![tactic(auto)]
+
 mod fields;
 mod hex;
 mod kind;

@@ -1,4 +1,6 @@
-// The program at the bench: it carries out a script, from the file that its only argument names or from standard input.
+//! The program at the bench: it carries out a script, from the file that its only argument names or from standard input.
+#![tactic(auto)]
+
 use anyhow::anyhow;
 use script::run_script;
 use std::io::Read;

@@ -1,4 +1,6 @@
-// Lines of three kinds, any of them over any other: a bank of sockets, a joint of two lines, a feeder that can be switched.
+//! Lines of three kinds, any of them over any other: a bank of sockets, a joint of two lines, a feeder that can be switched.
+#![tactic(auto)]
+
 mod bank;
 mod blend;
 mod feeder;

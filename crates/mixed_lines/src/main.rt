@@ -1,5 +1,7 @@
-// Lines over lines: a feeder over a joint of feeders over banks. Each line counts for itself, a part that is switched off is
-// not heard, and the rows hold what was fitted when the lines are gone.
+//! Lines over lines: a feeder over a joint of feeders over banks. Each line counts for itself, a part that is switched off is
+//! not heard, and the rows hold what was fitted when the lines are gone.
+#![tactic(auto)]
+
 ghost use Rattle.std.specs.Prelude.{◌≡◌, min, false, length, take, drop, replicate, Some, None, slice_set};
 ghost use Rattle.serial.specs.Six.{number};
 ghost use Rattle.wall.specs.Lines.{after_unless, fit_fault};

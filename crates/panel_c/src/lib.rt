@@ -1,5 +1,7 @@
-// The interface for C, as include/fanwall.h declares it: checksums, and questions read and written. Nothing allocates, and
-// no function asks anything of its caller beyond the types.
+//! The interface for C, as include/fanwall.h declares it: checksums, and questions read and written. Nothing allocates, and
+//! no function asks anything of its caller beyond the types.
+#![tactic(auto)]
+
 ghost use Rattle.std.specs.Prelude.{◌≡◌, ◌+◌, ◌≤◌, Ok};
 ghost use Rattle.checksum.specs.Crc.{crc};
 ghost use Rattle.telegram.specs.Reads.{read_question_result};

@@ -1,4 +1,6 @@
-// The language of the bench: one command to a line, carried out on a station alone or on a wall, with what it prints.
+//! The language of the bench: one command to a line, carried out on a station alone or on a wall, with what it prints.
+#![tactic(auto)]
+
 mod bench;
 mod command;
 mod fault;

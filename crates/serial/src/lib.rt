@@ -1,6 +1,8 @@
-// A serial: the number that tells a fan from all others. It has six bytes, none of them zero, the most significant first.
-// A mask, with zeros at the places that are left open, asks for several serials at once; a serial has no zero, so that no
-// byte of it can be taken for a place left open.
+//! A serial: the number that tells a fan from all others. It has six bytes, none of them zero, the most significant first.
+//! A mask, with zeros at the places that are left open, asks for several serials at once; a serial has no zero, so that no
+//! byte of it can be taken for a place left open.
+#![tactic(auto)]
+
 ghost use Rattle.std.specs.Prelude.{◌≡◌, ◌^◌, ◌<◌, true, false, Some, MatchOption, nat_lt};
 ghost use Rattle.serial.specs.Six.{six, number, no_zero, fair, fitting, before};
 

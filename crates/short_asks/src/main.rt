@@ -1,4 +1,6 @@
-// Lines asked with buffers of 22, 23 and 25 bytes, each full of EE before.
+//! Lines asked with buffers of 22, 23 and 25 bytes, each full of EE before.
+#![tactic(auto)]
+
 use lines::{Bank, Feeder, Joint};
 use stations::Fan;
 use std::io;

@@ -1,4 +1,6 @@
-// Buffers at their edge: 22 bytes are refused with 15 and stay as they were, 23 are enough.
+//! Buffers at their edge: 22 bytes are refused with 15 and stay as they were, 23 are enough.
+#![tactic(auto)]
+
 use serial::Serial;
 use stations::Fan;
 use std::io;

@@ -1,4 +1,6 @@
-// Three kinds of station behind one interface: V5.00 fan, older fan, controller.
+//! Three kinds of station behind one interface: V5.00 fan, older fan, controller.
+#![tactic(auto)]
+
 mod calls;
 mod device;
 mod kind;

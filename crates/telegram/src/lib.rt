@@ -1,4 +1,6 @@
-// Telegrams of Modbus RTU: read and written, questions and answers, and an answer held against its question.
+//! Telegrams of Modbus RTU: read and written, questions and answers, and an answer held against its question.
+#![tactic(auto)]
+
 mod answer;
 mod envelope;
 mod fault;

@@ -1,4 +1,6 @@
-// What a wall of fans is: stations, their sockets, lines, and what each telegram does to them.
+//! What a wall of fans is: stations, their sockets, lines, and what each telegram does to them.
+#![tactic(auto)]
+
 mod address;
 mod card;
 mod faults;

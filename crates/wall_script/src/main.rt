@@ -1,4 +1,6 @@
-// A script on the wall: sockets fitted and pulled, telegrams put, the feeder switched. Its last line tells what it would end with.
+//! A script on the wall: sockets fitted and pulled, telegrams put, the feeder switched. Its last line tells what it would end with.
+#![tactic(auto)]
+
 use script::run_script;
 use std::io;
 use std::io::Read;

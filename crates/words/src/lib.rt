@@ -1,4 +1,6 @@
-// The words of a script and what they say: numbers, bytes, serials; and why a line is not read.
+//! The words of a script and what they say: numbers, bytes, serials; and why a line is not read.
+#![tactic(auto)]
+
 mod text;
 mod unread;
 
