@@ -61,7 +61,7 @@ not_twice r true h = ap not h
 not_twice r false h = ap not h
 
 -- no byte is zero where a search for one finds none
-pub no_zero_from_contains : (bs : List ℕ) (r : Bool) → IsAnyAnswer (λ b t. Decides t (b ≡ 0)) bs r → not r ≡ no_zero bs
+pub no_zero_from_contains : (bs : List ℕ) (r : Bool) → IsAnyAnswer (λ b t. eqb b 0 ≡ t) bs r → not r ≡ no_zero bs
 no_zero_from_contains bs r h =
     let some = Decides-by_or (λ b. eqb b 0) (λ b. b ≡ 0) (λ l. not (no_zero l)) (λ b. Decides-eqb b 0) refl (λ b l. not_first (eqb b 0) (no_zero l)) bs in
     not_twice r (no_zero bs) (same_from_decides r (not (no_zero bs)) (contains_decides eqb Decides-eqb bs 0 r h) some)

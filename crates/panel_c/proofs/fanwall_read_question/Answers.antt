@@ -8,7 +8,7 @@ use Rattle.panel_c.specs.Panel.{reading, fields_with}
 use Rattle.panel_c.proofs.Lies.{found}
 use Rattle.panel_c.proofs.fanwall_read_question.Goals as goal
 
-pub data-at-requires : goal.data-at-requires
+pub data-at-requires : goal.data_at-requires
 data-at-requires c =
     let h = found c.args.bytes.now (fields c.in-Ok.q) (sym c.in-Ok.ensures.value) in
     (h.lies.long, h.short)
@@ -26,7 +26,7 @@ returns-in-Ok c =
     let f = fields q in
     let is : read_question_result bs ≡ Ok f = sym c.in-Ok.ensures.value in
     let h = found bs f is in
-    let at = c.data-at.ensures in
+    let at = c.data_at.ensures in
     let placed : ℕ → PanelFields = λ k. record {
       address = q.address;
       command = q.command;

@@ -25,8 +25,8 @@ loop-i-preserved g c =
     let z = together (map (said_in m.says t) (take i xs)) in
     let v = together (said_in m.says t x ∷ []) in
     let more : together (map (said_in m.says t) (take (i + 1) xs)) ≡ both z v = together-more (said_in m.says t) xs i (face d) within ∙ ap (λ y. both z (together (said_in m.says t y ∷ []))) (sym here) in
-    let asked = c.ask-one-heard.ensures in (
-      map-set face c.loop-i.sockets i c.ask-one-heard.new.socket ∙ ap (λ ys. set ys i (face c.ask-one-heard.new.socket)) c.loop-i.invariant.0 ∙ ap (set (passed f i xs) i) (asked.after ∙ ap f here) ∙ passed-more f i xs (face d) within,
+    let asked = c.ask_one-heard.ensures in (
+      map-set face c.loop-i.sockets i c.ask_one-heard.new.socket ∙ ap (λ ys. set ys i (face c.ask_one-heard.new.socket)) c.loop-i.invariant.0 ∙ ap (set (passed f i xs) i) (asked.after ∙ ap f here) ∙ passed-more f i xs (face d) within,
       turn_outcome z v c.loop-i.invariant.1 asked.outcome ∙ ap outcome_of (sym more),
       turn_front z v c.loop-i.invariant.1 c.loop-i.invariant.2 asked.bytes ∙ ap front (sym more),
     )

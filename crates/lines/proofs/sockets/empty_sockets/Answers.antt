@@ -7,7 +7,7 @@ loop-i-preserved g c =
     let row = c.args.sockets.now in
     let i = c.loop-i.i in
     let inside : i < length row = omega arith in
-    ap (set c.loop-i.sockets i) c.empty-socket.ensures ∙ ap (λ ys. set ys i None) c.loop-i.invariant ∙ passed-more (λ _. None) i row None inside
+    ap (set c.loop-i.sockets i) c.empty_socket.ensures ∙ ap (λ ys. set ys i None) c.loop-i.invariant ∙ passed-more (λ _. None) i row None inside
 
 pub returns : goal.returns
 returns g c =

@@ -27,6 +27,6 @@ returns g c =
     let h = c.if-n-sockets.false in
     let fault : Option Socket → Option FitFault = λ o. fit_fault_at o c.args.serial c.args.address in
     record {
-      value = whole-value (ap fault (sees m.speaks m.card m.state row n d h)) c.fit-one.ensures.value;
-      after = placed m.speaks m.card m.state row n d h fault c.fit-one.new.socket _ c.fit-one.ensures.after;
+      value = whole-value (ap fault (sees m.speaks m.card m.state row n d h)) c.fit_one.ensures.value;
+      after = placed m.speaks m.card m.state row n d h fault c.fit_one.new.socket _ c.fit_one.ensures.after;
     }

@@ -27,6 +27,6 @@ returns g c =
     let h = c.if-n-sockets.false in
     let fault : Option Socket → Option PullFault = pull_fault_at in
     record {
-      value = whole-value (ap fault (sees m.speaks m.card m.state row n d h)) c.pull-one.ensures.value;
-      after = placed m.speaks m.card m.state row n d h fault c.pull-one.new.socket _ c.pull-one.ensures.after;
+      value = whole-value (ap fault (sees m.speaks m.card m.state row n d h)) c.pull_one.ensures.value;
+      after = placed m.speaks m.card m.state row n d h fault c.pull_one.new.socket _ c.pull_one.ensures.after;
     }

@@ -12,4 +12,4 @@ returns-then-n-sockets g c =
 pub returns : goal.returns
 returns g c =
     let m = g.S.Station in
-    c.shown-socket.ensures ∙ ap (λ o. socket_of m.speaks m.card (option_map m.state o)) c.index-sockets-n.is ∙ sym (sees m.speaks m.card m.state c.args.sockets.now c.args.n c.index-sockets-n.result c.if-n-sockets.false)
+    c.shown_socket.ensures ∙ ap (λ o. socket_of m.speaks m.card (option_map m.state o)) c.index-sockets-n.is ∙ sym (sees m.speaks m.card m.state c.args.sockets.now c.args.n c.index-sockets-n.result c.if-n-sockets.false)

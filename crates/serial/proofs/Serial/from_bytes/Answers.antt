@@ -7,9 +7,9 @@ use Rattle.serial.proofs.Serial.from_bytes.Goals as goal
 pub returns : goal.returns
 returns c =
     let bs = c.args.bytes in
-    let v = c.from-be-bytes.result in
+    let v = c.from_be_bytes.result in
     let top : get_or bs 0 0 < 256 = search rules in
-    let e = c.from-be-bytes.ensures in
+    let e = c.from_be_bytes.ensures in
     let same : six v ≡ bs = six-is v _ _ _ _ _ _ top (search rules) (search rules) (search rules) (search rules) (search rules) (omega (arith, e)) ∙ sym (spelled bs (search rules)) in
     let short : v < 2 ^ 48 = search rules in
     let read : MatchOption c.new.result (no_zero bs ≡ false) (λ s. six s.value ≡ bs) = weaker c.new.result c.new.ensures (λ h. sym (fair-is v bs short same) ∙ h) (λ s h. ap six h ∙ same) in

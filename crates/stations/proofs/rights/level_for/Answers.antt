@@ -3,4 +3,4 @@ use Rattle.stations.proofs.rights.level_for.Goals as goal
 
 pub returns : goal.returns
 unfolding level_needed
-returns c = c.level-in.ensures
+returns c = c.level_in.ensures

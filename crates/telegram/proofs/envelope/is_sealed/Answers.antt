@@ -15,15 +15,15 @@ tested b two sum is bytes =
 pub returns-then-bytes-n : goal.returns-then-bytes-n
 returns-then-bytes-n c =
     let b = c.args.bytes.now in
-    let two = c.to-le-bytes.result in
+    let two = c.to_le_bytes.result in
     let m : length b - 2 + 1 ≡ length b - 1 = omega arith in
     (λ i. eqb (get_or b (m i) 0) (get_or two 1 0))
     ∙ ap (λ (t : Bool). t && eqb (get_or b (length b - 1) 0) (get_or two 1 0)) (sym (eq-eqb _ _ c.if-bytes-n.true))
-    ∙ tested b two c.checksum.result c.checksum.ensures c.to-le-bytes.ensures
+    ∙ tested b two c.checksum.result c.checksum.ensures c.to_le_bytes.ensures
 
 pub returns-else-bytes-n : goal.returns-else-bytes-n
 returns-else-bytes-n c =
     let b = c.args.bytes.now in
-    let two = c.to-le-bytes.result in
+    let two = c.to_le_bytes.result in
     let no = ne_eqb (get_or b (length b - 2) 0) (get_or two 0 0) c.if-bytes-n.false in
-    no ∙ ap (λ (t : Bool). t && eqb (get_or b (length b - 1) 0) (get_or two 1 0)) (sym no) ∙ tested b two c.checksum.result c.checksum.ensures c.to-le-bytes.ensures
+    no ∙ ap (λ (t : Bool). t && eqb (get_or b (length b - 1) 0) (get_or two 1 0)) (sym no) ∙ tested b two c.checksum.result c.checksum.ensures c.to_le_bytes.ensures

@@ -15,4 +15,4 @@ returns c =
     let cut : length (take (length b - 2) (drop 2 b)) - 2 - 0 ≡ length b - 4 = omega arith in
     let at : (λ (l : List ℕ) (n : ℕ). take n l) (take (length b - 2) (drop 2 b)) (length (take (length b - 2) (drop 2 b)) - 2 - 0) ≡ body_of b = (λ i. take (cut i) (rest i)) in
     ap (λ (l : List ℕ). Ok (record { address = get_or b 0 0; command = get_or b 1 0; body = l })) at
-    ∙ sym (cond-true (has_seal b) _ _ (sym c.if-not-is-sealed.ensures)) ∙ sym (cond-true (in_size b) _ _ fit)
+    ∙ sym (cond-true (has_seal b) _ _ (sym c.if-not-is_sealed.ensures)) ∙ sym (cond-true (in_size b) _ _ fit)

@@ -9,5 +9,5 @@ use Rattle.telegram.proofs.reading.read_question.Goals as goal
 pub returns : goal.returns
 returns c =
     let bs = c.args.bytes.now in
-    let is : shown fields c.question.result ≡ read_question_result bs = c.question.ensures ∙ ap (λ (r : Result Opened TelegramFault). and_then r as_question) c.in-ok-open-telegram.ensures in
-    record { value = is; accepted = made-shown fields (λ f. question f ≡ bs) c.question.result (read_question_result bs) is (accepted_question bs (λ i. (c.type-inv.bytes i).fits)) }
+    let is : shown fields c.question.result ≡ read_question_result bs = c.question.ensures ∙ ap (λ (r : Result Opened TelegramFault). and_then r as_question) c.in_ok-open_telegram.ensures in
+    record { value = is; accepted = made-shown fields (λ f. question f ≡ bs) c.question.result (read_question_result bs) is (accepted_question bs (λ i. (c.type_inv.bytes i).fits)) }

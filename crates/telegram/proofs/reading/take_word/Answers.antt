@@ -9,7 +9,7 @@ returns-then-has c =
     let two = cond-true c.args.has 2 0 c.if-has.true in
     let long : 2 ≤ length b = subst (λ (n : ℕ). n ≤ length b) two c.requires in
     record {
-      field = c.from-be-bytes.ensures ∙ sym (cond-true c.args.has _ _ c.if-has.true);
+      field = c.from_be_bytes.ensures ∙ sym (cond-true c.args.has _ _ c.if-has.true);
       rest = take_rest b 2 ∙ ap (λ (n : ℕ). drop n b) (sym two);
       left = omega (arith, two, ap length (take_rest b 2), length-drop 2 b);
     }

@@ -10,7 +10,7 @@ returns c =
     let b = c.args.bytes.now in
     let at = c.args.at in
     let e : part c.args.has b ≡ b = cond-true c.args.has _ _ c.if-not-has.false in
-    let front : take (at + length b) (put_mid at (at + length b - at) c.args.buffer.now c.copy-from-slice.new.self) ≡ take at c.args.buffer.now ++ b = search (rules, overwrites) in
+    let front : take (at + length b) (put_mid at (at + length b - at) c.args.buffer.now c.copy_from_slice.new.self) ≡ take at c.args.buffer.now ++ b = search (rules, overwrites) in
     record {
       end = ap (λ (n : ℕ). at + n) (sym (cond-true c.args.has (length b) 0 c.if-not-has.false));
       before = front ∙ ap (λ l. take at c.args.buffer.now ++ l) (sym e);

@@ -17,15 +17,15 @@ returns c =
     let serial = ap (λ (n : ℕ). span F.serial n) six in
     let g1 = grow (nothing c.args.buffer.now) c.put-n.new.buffer c.put-n.result _ (omega (arith, c.put-n.ensures.end)) c.put-n.ensures.before c.put-n.ensures.after in
     let g2 = grow g1 c.put-n-2.new.buffer c.put-n-2.result _ (omega (arith, c.put-n-2.ensures.end)) c.put-n-2.ensures.before c.put-n-2.ensures.after in
-    let g3 = grow g2 c.put-word-n.new.buffer c.put-word-n.result _ (omega (arith, c.put-word-n.ensures.end)) c.put-word-n.ensures.before c.put-word-n.ensures.after in
-    let g4 = grow g3 c.put-word-n-2.new.buffer c.put-word-n-2.result _ (omega (arith, c.put-word-n-2.ensures.end)) c.put-word-n-2.ensures.before c.put-word-n-2.ensures.after in
-    let g5 = grow g4 c.put-word-n-3.new.buffer c.put-word-n-3.result _ (omega (arith, c.put-word-n-3.ensures.end)) c.put-word-n-3.ensures.before c.put-word-n-3.ensures.after in
+    let g3 = grow g2 c.put_word-n.new.buffer c.put_word-n.result _ (omega (arith, c.put_word-n.ensures.end)) c.put_word-n.ensures.before c.put_word-n.ensures.after in
+    let g4 = grow g3 c.put_word-n-2.new.buffer c.put_word-n-2.result _ (omega (arith, c.put_word-n-2.ensures.end)) c.put_word-n-2.ensures.before c.put_word-n-2.ensures.after in
+    let g5 = grow g4 c.put_word-n-3.new.buffer c.put_word-n-3.result _ (omega (arith, c.put_word-n-3.ensures.end)) c.put_word-n-3.ensures.before c.put_word-n-3.ensures.after in
     let g6 = grow g5 c.put-n-3.new.buffer c.put-n-3.result _ (omega (arith, c.put-n-3.ensures.end)) c.put-n-3.ensures.before c.put-n-3.ensures.after in
     let g7 = grow g6 c.put-n-4.new.buffer c.put-n-4.result _ (omega (arith, c.put-n-4.ensures.end)) c.put-n-4.ensures.before c.put-n-4.ensures.after in
     let g8 = grow g7 c.put-n-5.new.buffer c.put-n-5.result _ (omega (arith, c.put-n-5.ensures.end)) c.put-n-5.ensures.before c.put-n-5.ensures.after in
     let front : take c.put-n-5.result c.put-n-5.new.buffer ≡ q.address ∷ q.command ∷ body F (fields q) =
     g8.front ∙ joined q.address q.command (part F.serial q.serial) (part F.subfunction (word q.subfunction)) (part F.register (word q.register)) (part F.value (word q.value)) (part F.size (q.size ∷ [])) (part F.code (q.code ∷ [])) (part F.«data» q.«data».now) in
     record {
-      end = omega (arith, c.put-n.ensures.end, c.put-n-2.ensures.end, c.put-word-n.ensures.end, c.put-word-n-2.ensures.end, c.put-word-n-3.ensures.end, c.put-n-3.ensures.end, c.put-n-4.ensures.end, c.put-n-5.ensures.end, c.put-seal.ensures.end);
-      bytes = c.put-seal.ensures.bytes ∙ (λ i. sealed (front i) ++ drop c.put-seal.result c.put-n-5.new.buffer) ∙ ap (λ (l : List ℕ). sealed (q.address ∷ q.command ∷ body F (fields q)) ++ l) (later c.put-n-5.result c.put-seal.result _ _ (omega (arith, c.put-seal.ensures.end)) g8.rest);
+      end = omega (arith, c.put-n.ensures.end, c.put-n-2.ensures.end, c.put_word-n.ensures.end, c.put_word-n-2.ensures.end, c.put_word-n-3.ensures.end, c.put-n-3.ensures.end, c.put-n-4.ensures.end, c.put-n-5.ensures.end, c.put_seal.ensures.end);
+      bytes = c.put_seal.ensures.bytes ∙ (λ i. sealed (front i) ++ drop c.put_seal.result c.put-n-5.new.buffer) ∙ ap (λ (l : List ℕ). sealed (q.address ∷ q.command ∷ body F (fields q)) ++ l) (later c.put-n-5.result c.put_seal.result _ _ (omega (arith, c.put_seal.ensures.end)) g8.rest);
     }

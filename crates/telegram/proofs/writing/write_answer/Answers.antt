@@ -12,8 +12,8 @@ pub returns : goal.returns
 returns c =
     let f = fields c.args.q.now in
     let b = c.args.buffer.now in
-    let r = c.write-as.result in
+    let r = c.write_as.result in
     let s : Sized f = record { six = search rules; subfunction16 = search rules; register16 = search rules; value16 = search rules } in
-    let is : r ≡ write_answer_result f (length b) = c.write-as.ensures.value ∙ ap (λ (form : Option Form). write_as_result form f (length b)) c.of-answer.ensures in
-    let bytes : c.write-as.new.buffer ≡ filled r (answer f) b = c.write-as.ensures.bytes ∙ ap (λ (form : Option Form). filled r (encode (or_none form) f) b) c.of-answer.ensures in
+    let is : r ≡ write_answer_result f (length b) = c.write_as.ensures.value ∙ ap (λ (form : Option Form). write_as_result form f (length b)) c.of_answer.ensures in
+    let bytes : c.write_as.new.buffer ≡ filled r (answer f) b = c.write_as.ensures.bytes ∙ ap (λ (form : Option Form). filled r (encode (or_none form) f) b) c.of_answer.ensures in
     record { value = is; bytes = bytes; back = reads-back read_answer_result _ (answer f) b _ r bytes (λ n e. answer_back f s (length b) n (sym is ∙ e)) }

@@ -12,11 +12,11 @@ pub returns : goal.returns
 returns g c =
     let m = g.S.Station in
     let row = c.args.sockets.now in
-    let n = c.in-use-n.result in
-    let last = c.empty-sockets.new.sockets in
-    let is = c.in-use-n.ensures in
-    let long = c.empty-sockets.auto.sockets in
-    let none : states m last ≡ replicate (min (length row) 64) None = ap (states m) (c.empty-sockets.ensures ∙ ap (λ k. replicate k None) (lent-long 64 n row last is)) ∙ none_mapped m.state (min (length row) 64) in
+    let n = c.in_use-n.result in
+    let last = c.empty_sockets.new.sockets in
+    let is = c.in_use-n.ensures in
+    let long = c.empty_sockets.auto.sockets in
+    let none : states m last ≡ replicate (min (length row) 64) None = ap (states m) (c.empty_sockets.ensures ∙ ap (λ k. replicate k None) (lent-long 64 n row last is)) ∙ none_mapped m.state (min (length row) 64) in
     let all : states m (take 64 (last ++ drop (n - 0) row)) ≡ replicate (min (length row) 64) None = ap (states m) (back-front 64 n row last is long) ∙ none in
     record {
       state = λ i. record { sockets = all i; tally = c.new.ensures i };

@@ -11,15 +11,15 @@ pub returns : goal.returns
 returns g c =
     let m = g.S.Station in
     let row = c.args.self.now.sockets.now in
-    let n = c.in-use-n.result in
-    let last = c.fit-socket.new.sockets in
-    let is = c.in-use-n.ensures in
-    let long = c.fit-socket.auto.sockets in
+    let n = c.in_use-n.result in
+    let last = c.fit_socket.new.sockets in
+    let is = c.in_use-n.ensures in
+    let long = c.fit_socket.auto.sockets in
     let lent = lent-front 64 n row last is in
     let fault : List (Option g.row.S.Denot) → Option FitFault = λ r. fit_fault_at (at (sockets_of m r) c.args.socket) c.args.serial c.args.address in
     record {
-      value = whole-value (ap fault (sym lent)) c.fit-socket.ensures.value;
-      after = cut-after (λ (ss : List (Option m.State)). record { sockets = ss; tally = c.args.self.now.tally.value }) (states m) (λ r. set (states m r) c.args.socket (Some (m.fresh (number c.args.serial) c.args.address c.args.defective))) lent (back-front 64 n row last is long) (ap fault (sym lent)) c.fit-socket.ensures.after;
+      value = whole-value (ap fault (sym lent)) c.fit_socket.ensures.value;
+      after = cut-after (λ (ss : List (Option m.State)). record { sockets = ss; tally = c.args.self.now.tally.value }) (states m) (λ r. set (states m r) c.args.socket (Some (m.fresh (number c.args.serial) c.args.address c.args.defective))) lent (back-front 64 n row last is long) (ap fault (sym lent)) c.fit_socket.ensures.after;
       rest = back-rest 64 n row last is long;
       lender = refl;
     }

@@ -10,15 +10,15 @@ pub returns : goal.returns
 returns g c =
     let m = g.S.Station in
     let row = c.args.self.now.sockets.now in
-    let n = c.in-use-n.result in
-    let last = c.pull-socket.new.sockets in
-    let is = c.in-use-n.ensures in
-    let long = c.pull-socket.auto.sockets in
+    let n = c.in_use-n.result in
+    let last = c.pull_socket.new.sockets in
+    let is = c.in_use-n.ensures in
+    let long = c.pull_socket.auto.sockets in
     let lent = lent-front 64 n row last is in
     let fault : List (Option g.row.S.Denot) → Option PullFault = λ r. pull_fault_at (at (sockets_of m r) c.args.socket) in
     record {
-      value = whole-value (ap fault (sym lent)) c.pull-socket.ensures.value;
-      after = cut-after (λ (ss : List (Option m.State)). record { sockets = ss; tally = c.args.self.now.tally.value }) (states m) (λ r. set (states m r) c.args.socket None) lent (back-front 64 n row last is long) (ap fault (sym lent)) c.pull-socket.ensures.after;
+      value = whole-value (ap fault (sym lent)) c.pull_socket.ensures.value;
+      after = cut-after (λ (ss : List (Option m.State)). record { sockets = ss; tally = c.args.self.now.tally.value }) (states m) (λ r. set (states m r) c.args.socket None) lent (back-front 64 n row last is long) (ap fault (sym lent)) c.pull_socket.ensures.after;
       rest = back-rest 64 n row last is long;
       lender = refl;
     }

@@ -8,4 +8,4 @@ pub returns : goal.returns
 returns g c =
     let m = g.S.Station in
     let row = c.args.self.now.sockets.now in
-    c.socket-at.ensures ∙ ap (λ r. at (sockets_of m r) c.args.n) (lent-front 64 c.in-use-used.result row row c.in-use-used.ensures)
+    c.socket_at.ensures ∙ ap (λ r. at (sockets_of m r) c.args.n) (lent-front 64 c.in_use-used.result row row c.in_use-used.ensures)

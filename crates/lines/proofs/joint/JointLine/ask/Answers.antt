@@ -15,8 +15,8 @@ returns g c =
     let r = p.reply j.left t in
     let s = q.reply j.right t in
     let e = c.ask.ensures in
-    let f = c.ask-beside.ensures in
-    let x : c.in-ok-first.first ≡ outcome_of r = heard b long r c.in-ok-first.first (sym c.in-ok-first.was ∙ e.value) in
+    let f = c.ask_beside.ensures in
+    let x : c.in_ok-first.first ≡ outcome_of r = heard b long r c.in_ok-first.first (sym c.in_ok-first.was ∙ e.value) in
     record {
       value = both-value b long r s x f.value;
       bytes = both_bytes b long r s (p.laws.rules j.left t).sized x e.bytes f.bytes;

@@ -8,17 +8,17 @@ use Rattle.stations.specs.Parts.{state}
 use Rattle.stations.specs.Sizes.{told-short, done_answers}
 use Rattle.stations.proofs.device.Device.act_on.Goals as goal
 
-pub carry-out-requires : goal.carry-out-requires
+pub carry-out-requires : goal.carry_out-requires
 carry-out-requires c =
     let q = fields c.args.q.now in
     let go : refusal c.args.kind (state c.args.self.now) c.of-action.result q ≡ None = ap (λ (a : Action). refusal c.args.kind (state c.args.self.now) a q) c.of-action.ensures ∙ sym c.requires.1.1 ∙ c.in-None.is in
     carry_fits c.args.kind (state c.args.self.now) c.of-action.result q (search rules) go
 
-pub put-done-requires : goal.put-done-requires
+pub put-done-requires : goal.put_done-requires
 put-done-requires c =
     let K = c.args.kind in
     let x = state c.args.self.now in
-    let y = state c.carry-out.new.self in
+    let y = state c.carry_out.new.self in
     let q = fields c.args.q.now in
     let at : refusal K x (action q.command) q ≡ None = sym c.requires.1.1 ∙ c.in-None.is in
     let go : refusal K x c.of-action.result q ≡ None = ap (λ (a : Action). refusal K x a q) c.of-action.ensures ∙ at in

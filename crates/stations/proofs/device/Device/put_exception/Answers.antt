@@ -12,7 +12,7 @@ returns-in-Ok c =
     let x = state c.args.self.now in
     let code = code_of c.args.refusal in
     let w = c.in-Ok.ensures in
-    let same : exception_to c.value.result c.args.command c.to-bytes.result c.code.result ≡ exception_to x.address c.args.command (six x.serial) code = (λ i. exception_to (c.value.ensures.same i) c.args.command (c.to-bytes.ensures.same i) (c.code.ensures i)) in
+    let same : exception_to c.value.result c.args.command c.to_bytes.result c.code.result ≡ exception_to x.address c.args.command (six x.serial) code = (λ i. exception_to (c.value.ensures.same i) c.args.command (c.to_bytes.ensures.same i) (c.code.ensures i)) in
     let ok = w.value ∙ cond-true _ _ _ (le-leb 23 (length c.args.buffer.now) c.requires) in
     let n : c.in-Ok.n ≡ exception_length c.args.command c.code.result = cc in
     record {

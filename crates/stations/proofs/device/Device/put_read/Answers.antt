@@ -10,10 +10,10 @@ pub returns : goal.returns
 returns c =
     let x = state c.args.self.now in
     let q = c.args.q.now in
-    let d = c.read-out.new.«data» in
+    let d = c.read_out.new.«data» in
     let n : 2 * q.value - 0 ≡ 2 * q.value = omega arith in
-    let told : take (2 * q.value - 0) d ≡ read_out (register_at c.args.kind x c.args.action) q.register q.value = ap (λ (k : ℕ). take k d) n ∙ c.read-out.ensures in
+    let told : take (2 * q.value - 0) d ≡ read_out (register_at c.args.kind x c.args.action) q.register q.value = ap (λ (k : ℕ). take k d) n ∙ c.read_out.ensures in
     record {
-      size = c.put-answer.ensures.size ∙ ap (λ (l : List ℕ). length (answer (answer_to x (fields q) l))) told;
-      bytes = c.put-answer.ensures.bytes ∙ ap (λ (l : List ℕ). answer (answer_to x (fields q) l) ++ drop c.put-answer.result c.args.buffer.now) told;
+      size = c.put_answer.ensures.size ∙ ap (λ (l : List ℕ). length (answer (answer_to x (fields q) l))) told;
+      bytes = c.put_answer.ensures.bytes ∙ ap (λ (l : List ℕ). answer (answer_to x (fields q) l) ++ drop c.put_answer.result c.args.buffer.now) told;
     }

@@ -11,7 +11,7 @@ loop-i-preserved c =
     let i = c.loop-i.i in
     let r = c.args.register in
     let x = state c.loop-i.self in
-    let now : state c.write-register.new.self ≡ written x (r + i) (get_or b (2 * i) 0 * 256 + get_or b (2 * i + 1) 0) = c.write-register.ensures ∙ ap (written x (r + i)) c.from-be-bytes-value.ensures in
+    let now : state c.write_register.new.self ≡ written x (r + i) (get_or b (2 * i) 0 * 256 + get_or b (2 * i + 1) 0) = c.write_register.ensures ∙ ap (written x (r + i)) c.from_be_bytes-value.ensures in
     ap (λ (y : State). all_written y (r + (i + 1)) (drop (2 * (i + 1)) b)) now
     ∙ sym (written_step x r i b (omega arith))
     ∙ c.loop-i.invariant
