@@ -8,13 +8,13 @@ use Rattle.panel_c.specs.Panel.{reading, fields_with}
 use Rattle.panel_c.proofs.Lies.{found}
 use Rattle.panel_c.proofs.fanwall_read_question.Goals as goal
 
-pub data-at-requires : goal.data_at-requires
-data-at-requires c =
+pub data_at-requires : goal.data_at-requires
+data_at-requires c =
     let h = found c.args.bytes.now (fields c.in-Ok.q) (sym c.in-Ok.ensures.value) in
     (h.lies.long, h.short)
 
-pub overflow-cast-fields : goal.overflow-cast-fields
-overflow-cast-fields c =
+pub overflow_cast-fields : goal.overflow_cast-fields
+overflow_cast-fields c =
     let h = found c.args.bytes.now (fields c.in-Ok.q) (sym c.in-Ok.ensures.value) in
     omega (arith, h.lies.long, h.short)
 

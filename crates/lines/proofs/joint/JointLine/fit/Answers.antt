@@ -7,8 +7,8 @@ use Rattle.lines.specs.LawsOfJoints.{at_left, at_right}
 use Rattle.lines.proofs.Refusals.{whole-value, whole-after}
 use Rattle.lines.proofs.joint.JointLine.fit.Goals as goal
 
-pub returns-then-is-left : goal.returns-then-is_left
-returns-then-is-left g c =
+pub returns-then-is_left : goal.returns-then-is_left
+returns-then-is_left g c =
     let p = g.P.Line in
     let q = g.Q.Line in
     let j = joint_state p q c.args.self.now in
@@ -22,8 +22,8 @@ returns-then-is-left g c =
       after = whole-after (with_left j) _ _ _ same c.fit.ensures.after (ap (λ b. cond b l r) (sym h));
     }
 
-pub returns-else-is-left : goal.returns-else-is_left
-returns-else-is-left g c =
+pub returns-else-is_left : goal.returns-else-is_left
+returns-else-is_left g c =
     let p = g.P.Line in
     let q = g.Q.Line in
     let j = joint_state p q c.args.self.now in

@@ -8,14 +8,14 @@ use Rattle.stations.specs.Parts.{state}
 use Rattle.stations.specs.Sizes.{told-short, done_answers}
 use Rattle.stations.proofs.device.Device.act_on.Goals as goal
 
-pub carry-out-requires : goal.carry_out-requires
-carry-out-requires c =
+pub carry_out-requires : goal.carry_out-requires
+carry_out-requires c =
     let q = fields c.args.q.now in
     let go : refusal c.args.kind (state c.args.self.now) c.of-action.result q ≡ None = ap (λ (a : Action). refusal c.args.kind (state c.args.self.now) a q) c.of-action.ensures ∙ sym c.requires.1.1 ∙ c.in-None.is in
     carry_fits c.args.kind (state c.args.self.now) c.of-action.result q (search rules) go
 
-pub put-done-requires : goal.put_done-requires
-put-done-requires c =
+pub put_done-requires : goal.put_done-requires
+put_done-requires c =
     let K = c.args.kind in
     let x = state c.args.self.now in
     let y = state c.carry_out.new.self in

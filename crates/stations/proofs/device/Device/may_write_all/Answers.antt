@@ -10,8 +10,8 @@ loop-i-preserved c =
     let i = c.loop-i.i in
     sym (allowed_step x c.args.register c.args.n i c.loop-i-test.true ∙ ap (λ t. t && all_allowed x (c.args.register + (i + 1)) (c.args.n - (i + 1))) (sym c.if-not-may_write.ensures)) ∙ c.loop-i.invariant
 
-pub returns-then-not-may-write : goal.returns-then-not-may_write
-returns-then-not-may-write c =
+pub returns-then-not-may_write : goal.returns-then-not-may_write
+returns-then-not-may_write c =
     let x = state c.args.self.now in
     let i = c.loop-i.i in
     sym (sym c.loop-i.invariant ∙ allowed_step x c.args.register c.args.n i c.loop-i-test.true ∙ ap (λ t. t && all_allowed x (c.args.register + (i + 1)) (c.args.n - (i + 1))) (sym c.if-not-may_write.ensures))
