@@ -10,7 +10,7 @@ returns g c =
     let m = g.S.Station in
     let serial = c.args.serial in
     let address = c.args.address in
-    let same : c.row·1.given.0 ≡ c.fit.new.self.sockets.now = search rules in
+    let same : c.row-1.given.0 ≡ c.fit.new.self.sockets.now = search rules in
     let empty : BankState m.State = record { sockets = replicate (min (length c.args.row.now) 64) None; tally = 0 } in
     let fit : BankState m.State → BankState m.State = λ b. after_unless (fit_fault (bank_wall m.speaks m.card b) 0 serial address) b (bank_fits m.fresh b 0 (number serial) address false) in
     let row : BankState m.State → List (Option m.State) = λ b. b.sockets in
