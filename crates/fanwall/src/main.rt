@@ -4,6 +4,7 @@
 use anyhow::anyhow;
 use script::run_script;
 use std::io::Read;
+use std::process::ExitCode;
 use std::{env, fs};
 
 const HELP: &str = "\
@@ -79,10 +80,11 @@ fn start(rt: &HostRuntime) -> anyhow::Result<()> {
     }
 }
 
-fn main(rt: HostRuntime) -> anyhow::Result<()> {
-    let ended = start(&rt);
-    if let Err(e) = &ended {
-        eprintln!(rt; "fanwall: {e}")?;
-    }
-    ended
+// What goes wrong is told by one line; where that cannot be written either, the status tells it.
+fn main(rt: HostRuntime) -> ExitCode {
+    let Err(e) = start(&rt) else {
+        return ExitCode::SUCCESS;
+    };
+    let _written = eprintln!(rt; "fanwall: {e}");
+    ExitCode::FAILURE
 }

@@ -7,7 +7,7 @@ use Rattle.std.specs.Option.{option_map}
 use Rattle.wall.specs.declared.card.Card.{Card}
 use Rattle.wall.specs.declared.card.Socket.{Socket}
 use Rattle.wall.specs.Counts.{one_more}
-use Rattle.wall.specs.Wall.{Wall, Reply, silence, somes, together, heard_in, heard, changed_in, GoodSocket, GoodSockets}
+use Rattle.wall.specs.Wall.{Wall, Reply, silence, somes, together, heard_in, changed_in, GoodSocket, GoodSockets}
 use Rattle.wall.specs.Laws.{new_card}
 use Rattle.wall.specs.Rules.{Rules, Probed, hits, if_bears, found, store_said, storing, adopt_said, adopting}
 use Rattle.wall.specs.Lines.{at, holding, fit_fault_at, pull_fault_at}

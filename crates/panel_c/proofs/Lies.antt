@@ -4,7 +4,7 @@ use Rattle.std.proofs.lemmas.List.{length-take-le, length-drop, drop-drop, drop-
 use Rattle.std.proofs.lemmas.Bool.{leb-true, and_parts, ne_eqb, cases_lt}
 use Rattle.telegram.specs.declared.forms.Form.{Form}
 use Rattle.telegram.specs.Forms.{question_form, span}
-use Rattle.telegram.specs.Layout.{Fields, body_of, in_size, past_code, past_size, past_value, past_register, past_subfunction, past_serial}
+use Rattle.telegram.specs.Layout.{Fields, body_of, past_code, past_size, past_value, past_register, past_subfunction, past_serial}
 use Rattle.telegram.specs.Reads.{inside, read_question_result}
 use Rattle.telegram.proofs.Accepts.{opened-as, found_as}
 use Rattle.panel_c.specs.Panel.{data_place}

@@ -1,5 +1,5 @@
 -- What tells the kinds of station apart.
-use Rattle.std.specs.Prelude.{ℕ, Bool, true, false, cond, not, ◌||◌, is_some, Some, None, Option, ◌==◌}
+use Rattle.std.specs.Prelude.{ℕ, Bool, true, false, cond, ◌||◌, is_some, Some, None, Option, ◌==◌}
 use Rattle.telegram.specs.Forms.{by_serial, question_form}
 use Rattle.stations.specs.declared.kind.Kind.{Kind}
 use Rattle.stations.specs.declared.kind.Kind.TheVariants.{Fan, OlderFan, Controller}

@@ -6,7 +6,7 @@ use Rattle.telegram.specs.declared.fault.TelegramFault.{TelegramFault}
 use Rattle.telegram.specs.declared.fault.TelegramFault.TheVariants.{Length, Checksum, Command, FormLength, Buffer}
 use Rattle.telegram.specs.declared.forms.Form.{Form}
 use Rattle.telegram.specs.Forms.{exception, exception_tells_serial, by_serial, done_form, question_form, exception_form, answer_form, fixed, fits}
-use Rattle.telegram.specs.Layout.{Fields, part, sealed, unsealed, has_seal, in_size, body_of, body, encode, decode, plain}
+use Rattle.telegram.specs.Layout.{Fields, sealed, unsealed, has_seal, in_size, body_of, body, encode, decode, plain}
 use Rattle.telegram.specs.Reads.{Opened, inside, opening, and_then, read_as_result, read_question_result, read_answer_result}
 use Rattle.telegram.specs.Writes.{or_none, question, answer, extent, write_as_result, filled}
 use Rattle.telegram.specs.Parts.{shown}

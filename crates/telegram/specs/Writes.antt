@@ -1,9 +1,9 @@
 -- What writing a telegram gives: the first refusal in the fixed order, or the length; and what the buffer holds then.
-use Rattle.std.specs.Prelude.{ℕ, ◌+◌, false, cond, not, List, [], ◌∷◌, ◌++◌, length, drop, Some, None, Ok, Err, Option, Result, nat_le, nat_lt}
+use Rattle.std.specs.Prelude.{ℕ, ◌+◌, false, cond, List, [], ◌∷◌, ◌++◌, length, drop, Some, None, Ok, Err, Option, Result, nat_le, nat_lt}
 use Rattle.telegram.specs.declared.fault.TelegramFault.{TelegramFault}
 use Rattle.telegram.specs.declared.fault.TelegramFault.TheVariants.{Length, Command, FormLength, Buffer}
 use Rattle.telegram.specs.declared.forms.Form.{Form}
-use Rattle.telegram.specs.Forms.{question_form, answer_form, exception_tells_serial, exception, span, fixed, fits}
+use Rattle.telegram.specs.Forms.{question_form, answer_form, exception_tells_serial, span, fixed, fits}
 use Rattle.telegram.specs.Layout.{Fields, part, sealed, encode}
 
 -- a command that is not known has no fields between it and the checksum
