@@ -1,7 +1,7 @@
 /*
  * fanwall.h - the telegrams of a wall of fans, for the firmware of the panel.
  *
- * Link with libpanel_c.a, which `rt staticlib panel_c` makes. Nothing here
+ * Link with libpanel_c.a, which `rt lib` in crates/panel_c makes. Nothing here
  * allocates memory, keeps anything between two calls, or stops the program.
  *
  * What each function owes its caller is proved. What the caller owes, and no

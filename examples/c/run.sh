@@ -2,10 +2,11 @@
 # Builds the library for C, compiles panel.c against it, runs it and compares what it prints with panel.txt.
 set -eu
 cd "$(dirname "$0")/../.."
-rt staticlib panel_c
-gcc -std=c11 -Wall -Wextra -Werror -Iinclude -o target/panel examples/c/panel.c target/staticlib/libpanel_c.a
+(cd crates/panel_c && rt lib)
+out=crates/panel_c/out
+gcc -std=c11 -Wall -Wextra -Werror -Iinclude -o "$out/panel" examples/c/panel.c "$out/libpanel_c.a"
 status=0
-target/panel >target/panel.txt || status=$?
-cat target/panel.txt
-diff examples/c/panel.txt target/panel.txt
+"$out/panel" >"$out/panel.txt" || status=$?
+cat "$out/panel.txt"
+diff examples/c/panel.txt "$out/panel.txt"
 exit "$status"
