@@ -1,4 +1,6 @@
 // Bytes as they are printed: two upper-case hexadecimal digits each.
+ghost use Rattle.std.specs.Prelude.{◌≡◌, ◌≤◌, length, take};
+
 use std::fmt;
 
 // With one space between two bytes.
@@ -41,7 +43,9 @@ impl fmt::Display for SixBytes {
     }
 }
 
-// What was written into the front of a buffer.
-pub fn front<'a>(buffer: &'a [u8], length: usize) -> Spaced<'a> {
-    Spaced(buffer.get(0..length).unwrap_or(&[]))
+// What was written into the front of a buffer: its first n bytes.
+pub fn front<'a>(buffer: &'a [u8], n: usize) -> Spaced<'a>
+    ensures { n ≤ length buffer.now → result.0.now ≡ take n buffer.now }
+{
+    Spaced(buffer.get(0..n).unwrap_or(&[]))
 }

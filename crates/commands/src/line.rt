@@ -1,4 +1,10 @@
-// The commands on a line, each over any line, with what it prints.
+// The commands on a line, each over any line, with what it prints. What the line becomes holds even where nothing can be
+// printed.
+ghost use Rattle.std.specs.Prelude.{◌≡◌};
+ghost use Rattle.serial.specs.Six.{number};
+ghost use Rattle.wall.specs.Lines.{fit_fault, pull_fault, after_unless};
+ghost use Rattle.lines.specs.Feeders.{feeder_state};
+
 use crate::hex::front;
 use crate::newcomer::Newcomer;
 use lines::Feeder;
@@ -10,7 +16,9 @@ pub fn fit<L: Line>(
     line: &mut L,
     socket: u32,
     newcomer: &Newcomer,
-) -> io::Result<()> {
+) -> io::Result<()>
+    ensures { L.Line.state line.new ≡ after_unless (fit_fault (L.Line.wall (L.Line.state line.old)) socket newcomer.now.serial newcomer.now.address) (L.Line.state line.old) (L.Line.fits (L.Line.state line.old) socket (number newcomer.now.serial) newcomer.now.address newcomer.now.defective) }
+{
     let Newcomer {
         serial,
         address,
@@ -22,14 +30,18 @@ pub fn fit<L: Line>(
     }
 }
 
-pub fn pull<L: Line>(rt: &HostRuntime, line: &mut L, socket: u32) -> io::Result<()> {
+pub fn pull<L: Line>(rt: &HostRuntime, line: &mut L, socket: u32) -> io::Result<()>
+    ensures { L.Line.state line.new ≡ after_unless (pull_fault (L.Line.wall (L.Line.state line.old)) socket) (L.Line.state line.old) (L.Line.pulls (L.Line.state line.old) socket) }
+{
     match line.pull(socket) {
         Ok(()) => println!(rt; "pull done"),
         Err(fault) => println!(rt; "pull refused {}", fault.number()),
     }
 }
 
-pub fn ask<L: Line>(rt: &HostRuntime, line: &mut L, telegram: &[u8]) -> io::Result<()> {
+pub fn ask<L: Line>(rt: &HostRuntime, line: &mut L, telegram: &[u8]) -> io::Result<()>
+    ensures { L.Line.state line.new ≡ L.Line.next (L.Line.state line.old) telegram.now }
+{
     let mut buffer = [0; 23];
     match line.ask(telegram, &mut buffer) {
         Ok(Outcome::Silence) => println!(rt; "ask silence"),
@@ -39,7 +51,9 @@ pub fn ask<L: Line>(rt: &HostRuntime, line: &mut L, telegram: &[u8]) -> io::Resu
     }
 }
 
-pub fn switch<L: Line>(rt: &HostRuntime, feeder: &mut Feeder<L>, on: bool) -> io::Result<()> {
+pub fn switch<L: Line>(rt: &HostRuntime, feeder: &mut Feeder<L>, on: bool) -> io::Result<()>
+    ensures { feeder_state L.Line feeder.new ≡ record { line = (feeder_state L.Line feeder.old).line; on = on; tally = (feeder_state L.Line feeder.old).tally } }
+{
     feeder.switch(on);
     println!(rt; "switch {}", on_or_off(on))
 }

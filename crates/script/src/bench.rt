@@ -1,5 +1,5 @@
 // What a script keeps from line to line.
-ghost use Rattle.std.specs.Prelude.{◌≡◌, Some, None, MatchResult};
+ghost use Rattle.std.specs.Prelude.{◌≡◌, Some, None, MatchResult, OnErr};
 ghost use Rattle.script.specs.Stations.{station_fault};
 
 use crate::command::Fitting;
@@ -37,7 +37,8 @@ impl Bench {
 
     // Puts a new station in place of the one before, which stays where this is refused.
     pub fn put_station(&mut self, fitting: &Fitting) -> Result<(), StationFault>
-        ensures { MatchResult result (λ _. station_fault fitting.now.serial fitting.now.address ≡ None) (λ e. station_fault fitting.now.serial fitting.now.address ≡ Some e) }
+        ensures kept { OnErr result (self.new ≡ self.old) }
+        ensures fault { MatchResult result (λ _. station_fault fitting.now.serial fitting.now.address ≡ None) (λ e. station_fault fitting.now.serial fitting.now.address ≡ Some e) }
     {
         self.station = Some(Alone::new(fitting)?);
         Ok(())

@@ -1,5 +1,6 @@
 // Lines and words of a script, which are bytes and need not be text, and what a word says: a number, bytes, a serial.
-ghost use Rattle.std.specs.Prelude.{◌≡◌, ◌+◌, ◌*◌, ◌<◌, ◌≤◌, IfOk};
+ghost use Rattle.std.specs.Prelude.{◌≡◌, ◌+◌, ◌-◌, ◌*◌, ◌<◌, ◌≤◌, IfOk};
+ghost use Rattle.words.specs.Digits.{digit_value, value_of};
 
 use crate::unread::Unread;
 use std::alloc::{AllocError, Global};
@@ -109,17 +110,22 @@ pub fn serial_of(word: &[u8]) -> Result<[u8; 6], Unread> {
 }
 
 // A number of one or two hexadecimal digits.
-pub fn hex_byte(word: &[u8]) -> Result<u8, Unread> {
+pub fn hex_byte(word: &[u8]) -> Result<u8, Unread>
+    ensures { IfOk result (λ n. n ≡ value_of 16 word.now) }
+{
     Ok(hex_number(word, 2, 0xFF)? as u8)
 }
 
 // A number of one to four hexadecimal digits.
-pub fn hex_word(word: &[u8]) -> Result<u16, Unread> {
+pub fn hex_word(word: &[u8]) -> Result<u16, Unread>
+    ensures { IfOk result (λ n. n ≡ value_of 16 word.now) }
+{
     hex_number(word, 4, 0xFFFF)
 }
 
 fn hex_number(word: &[u8], digits: usize, limit: u16) -> Result<u16, Unread>
-    ensures { IfOk result (λ n. n ≤ limit) }
+    ensures range { IfOk result (λ n. n ≤ limit) }
+    ensures value { IfOk result (λ n. n ≡ value_of 16 word.now) }
 {
     if word.is_empty() {
         return Err(Unread::NoDigits);
@@ -135,12 +141,15 @@ fn hex_number(word: &[u8], digits: usize, limit: u16) -> Result<u16, Unread>
 }
 
 // A decimal number of at most 255.
-pub fn decimal_byte(word: &[u8]) -> Result<u8, Unread> {
+pub fn decimal_byte(word: &[u8]) -> Result<u8, Unread>
+    ensures { IfOk result (λ n. n ≡ value_of 10 word.now) }
+{
     Ok(decimal(word, 255)? as u8)
 }
 
 fn decimal(word: &[u8], limit: u16) -> Result<u16, Unread>
-    ensures { IfOk result (λ n. n ≤ limit) }
+    ensures range { IfOk result (λ n. n ≤ limit) }
+    ensures value { IfOk result (λ n. n ≡ value_of 10 word.now) }
 {
     if word.is_empty() {
         return Err(Unread::NoDigits);
@@ -153,7 +162,9 @@ fn decimal(word: &[u8], limit: u16) -> Result<u16, Unread>
 }
 
 // A decimal number below 2^32.
-pub fn decimal_number(word: &[u8]) -> Result<u32, Unread> {
+pub fn decimal_number(word: &[u8]) -> Result<u32, Unread>
+    ensures { IfOk result (λ n. n ≡ value_of 10 word.now) }
+{
     if word.is_empty() {
         return Err(Unread::NoDigits);
     }
@@ -201,7 +212,8 @@ fn within(value: u16, limit: u16) -> Result<u16, Unread>
 }
 
 fn hex_digit(byte: u8) -> Result<u8, Unread>
-    ensures { IfOk result (λ d. d < 16) }
+    ensures range { IfOk result (λ d. d < 16) }
+    ensures value { IfOk result (λ d. d ≡ digit_value byte) }
 {
     match byte {
         b'0'..=b'9' => Ok(byte - b'0'),
@@ -212,7 +224,8 @@ fn hex_digit(byte: u8) -> Result<u8, Unread>
 }
 
 fn decimal_digit(byte: u8) -> Result<u8, Unread>
-    ensures { IfOk result (λ d. d < 10) }
+    ensures range { IfOk result (λ d. d < 10) }
+    ensures value { IfOk result (λ d. d ≡ digit_value byte) }
 {
     match byte {
         b'0'..=b'9' => Ok(byte - b'0'),
