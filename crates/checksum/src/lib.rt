@@ -39,21 +39,19 @@ fn entry(b: u8) -> u16
 }
 
 // The value after one byte more. Only the low byte decides which polynomials come in, so the high byte moves down as it is.
+#[tactic(auto, using(crate::proofs::Linear::by_table))]
 fn stepped(c: u16, b: u8) -> u16
     ensures { result ≡ next c b }
 {
-    (c >> 8) ^ entry(((c ^ u16::from(b)) & 0xFF) as u8)
+    let [low, high] = c.to_le_bytes();
+    u16::from(high) ^ entry(low ^ b)
 }
 
 // The value after `bytes`, where it was `c` before them.
 fn checksum_from(c: u16, bytes: &[u8]) -> u16
     ensures { result ≡ crc_from c bytes.now }
 {
-    let mut c = c;
-    for b in bytes {
-        c = stepped(c, *b);
-    }
-    c
+    bytes.iter().fold(c, |c, b| stepped(c, *b))
 }
 
 // The checksum of `bytes`.

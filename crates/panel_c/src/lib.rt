@@ -1,31 +1,23 @@
 //! The interface for C, as include/fanwall.h declares it: checksums, and questions read and written. Nothing allocates, and
-//! no function asks anything of its caller beyond the types.
+//! no function asks anything of its caller beyond the types. C has no Result: a refusal is a number.
 #![tactic(auto)]
 
-ghost use Rattle.std.specs.Prelude.{◌≡◌, ◌+◌, ◌≤◌, Ok};
+ghost use Rattle.std.specs.Prelude.{◌≡◌, Ok};
 ghost use Rattle.checksum.specs.Crc.{crc};
 ghost use Rattle.telegram.specs.Reads.{read_question_result};
-ghost use Rattle.panel_c.specs.Panel.{data_place, data_of, fields_with, question_read, question_written};
+ghost use Rattle.panel_c.specs.Panel.{data_of, fields_with, question_read, question_written};
 
 mod fields;
 
 use checksum::checksum;
 pub use fields::PanelFields;
-use telegram::{Telegram, read_question, write_question};
+use telegram::{Fault, read_question, write_question};
 
 #[unsafe(no_mangle)]
 pub extern "C" fn fanwall_checksum(bytes: &[u8]) -> u16
     ensures { result ≡ crc bytes.now }
 {
     checksum(bytes)
-}
-
-// Where the data of a telegram of n bytes begins: it is the last part before the checksum.
-fn data_at(n: usize, len: usize) -> u8
-    requires { (len + 4 ≤ n) × (n ≤ 23) }
-    ensures { result ≡ data_place n len }
-{
-    if len == 0 { 0 } else { (n - 2 - len) as u8 }
 }
 
 // Reads a question: 0, or the number of the refusal, and then the fields stay as they were.
@@ -37,27 +29,15 @@ pub extern "C" fn fanwall_read_question(bytes: &[u8], fields: &mut PanelFields) 
 {
     match read_question(bytes) {
         Ok(q) => {
-            let len = q.data.len();
-            *fields = PanelFields {
-                address: q.address,
-                command: q.command,
-                serial: q.serial,
-                subfunction: q.subfunction,
-                register: q.register,
-                value: q.value,
-                size: q.size,
-                code: q.code,
-                data_at: data_at(bytes.len(), len),
-                data_len: len as u8,
-            };
+            *fields = PanelFields::of(&q, bytes.len());
             0
         }
         Err(fault) => fault.number(),
     }
 }
 
-// Writes a question from the fields and its data, which lies anywhere: 0, or the number of the refusal, and then buffer and
-// count stay as they were. Where the struct says that data lies plays no part.
+// Writes a question from the fields and its data: 0, or the number of the refusal, and then buffer and count stay as they
+// were.
 #[unsafe(no_mangle)]
 pub extern "C" fn fanwall_write_question(
     fields: &PanelFields,
@@ -69,17 +49,7 @@ pub extern "C" fn fanwall_write_question(
     ensures bytes { buffer.new ≡ (question_written (fields_with fields.now «data».now) buffer.old written.old).bytes }
     ensures count { written.new ≡ (question_written (fields_with fields.now «data».now) buffer.old written.old).count }
 {
-    let q = Telegram {
-        address: fields.address,
-        command: fields.command,
-        serial: fields.serial,
-        subfunction: fields.subfunction,
-        register: fields.register,
-        value: fields.value,
-        size: fields.size,
-        code: fields.code,
-        data,
-    };
+    let q = fields.telegram(data);
     match write_question(&q, buffer) {
         Ok(n) => {
             *written = n;

@@ -1,12 +1,14 @@
 -- Six bytes and their number, the order of both, and lists of bytes under a mask.
-use Rattle.std.proofs.Common.{◌≡◌, ℕ, ◌+◌, ◌*◌, ◌/◌, ◌%◌, ◌^◌, ◌<◌, Bool, true, false, cond, not, ◌||◌, eqb, ltb, List, [], ◌∷◌, length, get_or, drop, refl, ap, ◌∙◌, arith, ltb-true, lt-ltb}
-use Rattle.std.proofs.lemmas.List.{drop_more}
-use Rattle.std.proofs.lemmas.List.Elements.{contains_decides}
-use Rattle.std.proofs.lemmas.Bool.Decides.{nat_tests, Decides-by_or, Decides-eqb, same_from_decides}
-use Rattle.std.specs.List.{IsAnyAnswer}
+use Rattle.std.proofs.Common.{◌≡◌, ℕ, ◌+◌, ◌*◌, ◌/◌, ◌%◌, ◌^◌, ◌<◌, ◌≤◌, Bool, true, false, cond, not, ◌&&◌, ◌||◌, eqb, ltb, List, [], ◌∷◌, length, get_or, sym, refl, ap, ◌∙◌, arith, ltb-true, lt-ltb}
+use Rattle.std.proofs.lemmas.Bool.Decides.{nat_tests}
+use Rattle.std.specs.List.{list_any, list_all, zip}
 use Rattle.serial.specs.Six.{six, number, no_zero, fair, fitting, before}
 
-pub spelled : (bs : List ℕ) → length bs ≡ 6 → bs ≡ get_or bs 0 0 ∷ get_or bs 1 0 ∷ get_or bs 2 0 ∷ get_or bs 3 0 ∷ get_or bs 4 0 ∷ get_or bs 5 0 ∷ []
+-- the elements at the first six places
+abbrev pub at_places : List ℕ → List ℕ
+at_places bs = get_or bs 0 0 ∷ get_or bs 1 0 ∷ get_or bs 2 0 ∷ get_or bs 3 0 ∷ get_or bs 4 0 ∷ get_or bs 5 0 ∷ []
+
+spelled : (bs : List ℕ) → length bs ≡ 6 → bs ≡ at_places bs
 spelled [] h = absurd (omega arith)
 spelled (a ∷ []) h = absurd (omega arith)
 spelled (a ∷ b ∷ []) h = absurd (omega arith)
@@ -17,7 +19,7 @@ spelled (a ∷ b ∷ c ∷ d ∷ e ∷ f ∷ []) h = refl
 spelled (a ∷ b ∷ c ∷ d ∷ e ∷ f ∷ g ∷ bs) h = absurd (omega arith)
 
 -- the six bytes of the number that six bytes make are those bytes
-pub six-is : (v a b c d e f : ℕ) → a < 256 → b < 256 → c < 256 → d < 256 → e < 256 → f < 256 → v ≡ a * 1099511627776 + b * 4294967296 + c * 16777216 + d * 65536 + e * 256 + f → six v ≡ a ∷ b ∷ c ∷ d ∷ e ∷ f ∷ []
+six-is : (v a b c d e f : ℕ) → a < 256 → b < 256 → c < 256 → d < 256 → e < 256 → f < 256 → v ≡ a * 1099511627776 + b * 4294967296 + c * 16777216 + d * 65536 + e * 256 + f → six v ≡ a ∷ b ∷ c ∷ d ∷ e ∷ f ∷ []
 six-is v a b c d e f ha hb hc hd he hf is =
     let p : v / 1099511627776 % 256 ≡ a = omega arith in
     let q : v / 4294967296 % 256 ≡ b = omega arith in
@@ -27,9 +29,8 @@ six-is v a b c d e f ha hb hc hd he hf is =
     let u : v % 256 ≡ f = omega arith in
     cc
 
--- the six bytes of a number make that number
-pub number-six : (v : ℕ) → v < 2 ^ 48 → number (six v) ≡ v
-number-six v h = omega arith
+pub six-number : (v : ℕ) (bs : List ℕ) → length bs ≡ 6 → get_or bs 0 0 < 256 → get_or bs 1 0 < 256 → get_or bs 2 0 < 256 → get_or bs 3 0 < 256 → get_or bs 4 0 < 256 → get_or bs 5 0 < 256 → v ≡ number (at_places bs) → six v ≡ bs
+six-number v bs h ha hb hc hd he hf is = six-is v _ _ _ _ _ _ ha hb hc hd he hf (is ∙ omega arith) ∙ sym (spelled bs h)
 
 -- numbers of six bytes with the same bytes are the same
 pub value-from-six : (v w : ℕ) → v < 2 ^ 48 → w < 2 ^ 48 → six v ≡ six w → v ≡ w
@@ -47,27 +48,35 @@ fair-is v bs h e = ap (λ t. cond t (no_zero (six v)) false) (lt-ltb v (2 ^ 48) 
 
 both : (t u : Bool) → cond t u false ≡ true → (t ≡ true) × (u ≡ true)
 both true u h = (refl, h)
-both false u h = let z : ◌≡◌ {A = ℕ} 0 1 = cc in absurd (omega arith)
+both false u h = cc
 
 pub fair_parts : (v : ℕ) → fair v ≡ true → (v < 2 ^ 48) × (no_zero (six v) ≡ true)
 fair_parts v h = let p = both (ltb v (2 ^ 48)) (no_zero (six v)) h in (ltb-true _ _ p.0, p.1)
 
-not_first : (t u : Bool) → not (cond t false u) ≡ (t || not u)
-not_first true u = refl
-not_first false u = refl
+none_first : (t u : Bool) → cond t false (not u) ≡ not (t || u)
+none_first true u = refl
+none_first false u = refl
 
-not_twice : (r t : Bool) → r ≡ not t → not r ≡ t
-not_twice r true h = ap not h
-not_twice r false h = ap not h
+-- no byte is zero where none of them is found to be
+pub no_zero_from_list_any : (bs : List ℕ) → no_zero bs ≡ not (list_any (λ b. eqb b 0) bs)
+no_zero_from_list_any [] = refl
+no_zero_from_list_any (b ∷ bs) = ap (cond (eqb b 0) false) (no_zero_from_list_any bs) ∙ none_first (eqb b 0) (list_any (λ a. eqb a 0) bs)
 
--- no byte is zero where a search for one finds none
-pub no_zero_from_contains : (bs : List ℕ) (r : Bool) → IsAnyAnswer (λ b t. eqb b 0 ≡ t) bs r → not r ≡ no_zero bs
-no_zero_from_contains bs r h =
-    let some = Decides-by_or (λ b. eqb b 0) (λ b. b ≡ 0) (λ l. not (no_zero l)) (λ b. Decides-eqb b 0) refl (λ b l. not_first (eqb b 0) (no_zero l)) bs in
-    not_twice r (no_zero bs) (same_from_decides r (not (no_zero bs)) (contains_decides eqb Decides-eqb bs 0 r h) some)
+-- a byte of a mask fits the byte at its place
+abbrev pub fits_place : ℕ × ℕ → Bool
+fits_place p = eqb p.0 0 || eqb p.0 p.1
 
-pub fitting_step : (ms bs : List ℕ) (i : ℕ) → i < length ms → i < length bs → fitting (drop i ms) (drop i bs) ≡ fitting (get_or ms i 0 ∷ drop (i + 1) ms) (get_or bs i 0 ∷ drop (i + 1) bs)
-fitting_step ms bs i h k = rw (drop_more ms i 0 h, drop_more bs i 0 k)
+place_first : (t u f : Bool) → ((t || u) && f) ≡ cond t f (cond u f false)
+place_first true u f = refl
+place_first false true f = refl
+place_first false false f = refl
+
+-- a mask that is no longer than the bytes fits them where it does at each of its places
+pub fitting-from_pairs : (ms bs : List ℕ) → length ms ≤ length bs → list_all fits_place (zip ms bs) ≡ fitting ms bs
+fitting-from_pairs [] bs h = refl
+fitting-from_pairs (m ∷ ms) [] h = absurd (omega arith)
+fitting-from_pairs (m ∷ ms) (b ∷ bs) h =
+    ap (λ f. (eqb m 0 || eqb m b) && f) (fitting-from_pairs ms bs (omega arith)) ∙ place_first (eqb m 0) (eqb m b) (fitting ms bs)
 
 -- one byte more in front: it decides the order, and where both have the same one, what stands behind it does
 order_step : (t : Bool) (a b p q v w : ℕ) → (a < b → v < w) → (b < a → w < v) → (a ≡ b → p < q → v < w) → (a ≡ b → v < w → p < q) → t ≡ ltb p q → cond (ltb a b) true (cond (eqb a b) t false) ≡ ltb v w

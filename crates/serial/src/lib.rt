@@ -59,7 +59,8 @@ impl Serial {
         fits_bytes(mask, self.to_bytes())
     }
 
-    // Whether this serial comes before the other. The order of the numbers is the order of the bytes, by the first that differs.
+    // Whether this serial comes before the other. The order of the numbers is the order of the bytes, by the first that differs:
+    // `<` alone does not say the second.
     pub fn precedes(self, other: Serial) -> bool
         ensures number { result ≡ nat_lt self.value other.value }
         ensures bytes { result ≡ before (six self.value) (six other.value) }
@@ -77,6 +78,7 @@ fn six_bytes(value: u64) -> [u8; 6]
 }
 
 // Whether none of the bytes is zero, so that they are those of a serial.
+#[tactic(auto, using(crate::proofs::Bytes::no_zero_from_list_any))]
 pub fn has_no_zero(bytes: [u8; 6]) -> bool
     ensures { result ≡ no_zero bytes }
 {
@@ -87,12 +89,9 @@ pub fn has_no_zero(bytes: [u8; 6]) -> bool
 pub fn fits_bytes(mask: [u8; 6], bytes: [u8; 6]) -> bool
     ensures { result ≡ fitting mask bytes }
 {
-    for i in 0..6 {
-        if mask[i] != 0 && mask[i] != bytes[i] {
-            return false;
-        }
-    }
-    true
+    mask.iter()
+        .zip(bytes.iter())
+        .all(|(m, b)| *m == 0 || m == b)
 }
 
 #[cfg(test)]

@@ -15,7 +15,7 @@ use Rattle.telegram.proofs.Seals.{sealed-long, opening-sealed, sealed-back}
 
 -- an Ok is no Err
 pub no_err : {X E : Type 0} (e : E) (x : X) → ◌≡◌ {A = Result X E} (Err e) (Ok x) → ⊥
-no_err e x h = let z : ◌≡◌ {A = ℕ} 0 1 = cc in omega arith
+no_err e x h = cc
 
 -- what held where a reading gave fields
 
@@ -93,7 +93,7 @@ some_inj : (F G : Form) → ◌≡◌ {A = Option Form} (Some F) (Some G) → F 
 some_inj F G e = cc
 
 none-some : (F : Form) → ◌≡◌ {A = Option Form} None (Some F) → ⊥
-none-some F e = let z : ◌≡◌ {A = ℕ} 0 1 = cc in omega arith
+none-some F e = cc
 
 shape_if : (plainly serially t : Bool) (F : Form) → cond plainly (Some (exception false)) (cond serially (Some (exception t)) None) ≡ Some F → (s : Bool) × (F ≡ exception s)
 shape_if true serially t F h = (false, sym (some_inj _ _ h))

@@ -1,5 +1,5 @@
 -- A body laid out and found again: each field in turn.
-use Rattle.std.proofs.Common.{◌≡◌, ℕ, ◌+◌, ◌/◌, ◌%◌, ◌<◌, ◌≤◌, Bool, true, false, cond, eqb, leb, List, [], ◌∷◌, ◌++◌, map, length, get_or, take, drop, sym, refl, ap, ◌∙◌, arith}
+use Rattle.std.proofs.Common.{◌≡◌, ℕ, ◌+◌, ◌*◌, ◌/◌, ◌%◌, ◌<◌, ◌≤◌, Bool, true, false, cond, eqb, leb, List, [], ◌∷◌, ◌++◌, map, length, get_or, take, drop, replicate, sym, refl, ap, ◌∙◌, arith, lit<}
 use Rattle.std.specs.List.{range_with_len}
 use Rattle.std.proofs.lemmas.List.FromFn.{fill_by_all}
 use Rattle.std.proofs.lemmas.List.{length-take-le, get_or-take, get_or-drop, take-append-drop, take_at, drop_at, length-append, length-drop}
@@ -22,6 +22,16 @@ pub record Sized (f : Fields) : Type 0 where
 
 abbrev pub Bytes : List ℕ → Type 0
 Bytes b = (i : ℕ) → get_or b i 0 < 256
+
+-- what a reader takes of so many bytes, if the field is there
+
+pub word-taken : (has : Bool) (b l : List ℕ) → l ≡ cond has (take 2 b) (replicate 2 0) → word_of l ≡ cond has (word_of b) 0
+word-taken true b l h = ap word_of h ∙ (λ i. get_or-take 2 b 0 0 (lit< tt) i * 256 + get_or-take 2 b 1 0 (lit< tt) i)
+word-taken false b l h = ap word_of h
+
+pub byte-taken : (has : Bool) (b l : List ℕ) → l ≡ cond has (take 1 b) (replicate 1 0) → get_or l 0 0 ≡ cond has (get_or b 0 0) 0
+byte-taken true b l h = ap (λ (k : List ℕ). get_or k 0 0) h ∙ get_or-take 1 b 0 0 (lit< tt)
+byte-taken false b l h = ap (λ (k : List ℕ). get_or k 0 0) h
 
 -- from fields to bytes and back
 
@@ -133,7 +143,7 @@ fits-long true n m k h = omega (arith, leb-true (n + k) m h)
 fits-long false n m k h = omega (arith, eqb-true m n h)
 
 fits_exact : (has : Bool) (n m k : ℕ) → cond has (leb (n + k) m) (eqb m n) ≡ true → has ≡ false → m ≡ n
-fits_exact true n m k h e = let z : ◌≡◌ {A = ℕ} 0 1 = cc in absurd (omega arith)
+fits_exact true n m k h e = cc
 fits_exact false n m k h e = eqb-true m n h
 
 pub long_enough : (F : Form) (n : ℕ) → fits F n ≡ true → fixed F ≤ n

@@ -1,5 +1,6 @@
+pub mod Commands
 pub mod Bodies
+pub mod Drafts
 pub mod Seals
 pub mod Accepts
-pub mod Grows
 pub mod Questions

@@ -45,7 +45,7 @@ opening-short bs o h =
 
 -- and where a length or a checksum is wrong there is nothing to open
 opened-no : (s k : Bool) (x : Opened) → (s && k) ≡ false → (e : TelegramFault) × (◌≡◌ {A = Result Opened TelegramFault} (cond s (cond k (Ok x) (Err Checksum)) (Err Length)) (Err e))
-opened-no true true x h = let z : ◌≡◌ {A = ℕ} 0 1 = cc in absurd (omega arith)
+opened-no true true x h = cc
 opened-no true false x h = (Checksum, refl)
 opened-no false k x h = (Length, refl)
 
@@ -89,7 +89,7 @@ is-question o q h short =
 -- the commands of questions are nine
 
 no-form : (F : Form) → ◌≡◌ {A = Option Form} None (Some F) → ⊥
-no-form F e = let z : ◌≡◌ {A = ℕ} 0 1 = cc in omega arith
+no-form F e = cc
 
 else_by : (P : ℕ → Type 0) (c k : ℕ) → P k → ((c ≡ k → ⊥) → P c) → P c
 else_by P c k p other = elim (cases_eq c k) [ inl e ↦ subst P (sym e) p | inr n ↦ other n ]

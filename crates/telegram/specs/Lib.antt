@@ -1,4 +1,5 @@
 pub mod Numbers
+pub mod Commands
 pub mod Forms
 pub mod Layout
 pub mod Parts

@@ -1,19 +1,30 @@
 // Why a telegram is turned down, and why an answer is none to its question.
-ghost use Rattle.std.specs.Prelude.{◌≡◌};
+ghost use Rattle.std.specs.Prelude.{◌≡◌, ℕ};
 ghost use Rattle.telegram.specs.Numbers.{telegram_number, answer_number, answer_code};
+ghost use Rattle.telegram.specs.declared.fault.TelegramFault.TheVariants.{Command};
 ghost use Rattle.telegram.specs.declared.fault.AnswerFault.TheVariants.{Broken};
+
+use crate::command::UnknownCommand;
+
+// Why a call is turned down. Each fault has its number, by which testers and C know it.
+pub trait Fault: Sized {
+    ghost number_of: { Self → ℕ };
+
+    fn number(self) -> u8
+        ensures { result ≡ number_of self };
+}
 
 #[derive(Clone, Copy, PartialEq, Eq, Debug)]
 pub enum TelegramFault {
     // it has not 4 to 23 bytes
-    Length,
-    Checksum,
+    Length = 1,
+    Checksum = 2,
     // the command is not known
-    Command,
+    Command = 3,
     // its length does not fit its form
-    FormLength,
+    FormLength = 4,
     // the buffer has not 23 bytes
-    Buffer,
+    Buffer = 15,
 }
 
 #[derive(Clone, Copy, PartialEq, Eq, Debug)]
@@ -30,24 +41,18 @@ pub enum AnswerFault {
     Content,
 }
 
-impl TelegramFault {
-    pub fn number(self) -> u8
-        ensures { result ≡ telegram_number self }
-    {
-        match self {
-            TelegramFault::Length => 1,
-            TelegramFault::Checksum => 2,
-            TelegramFault::Command => 3,
-            TelegramFault::FormLength => 4,
-            TelegramFault::Buffer => 15,
-        }
+impl Fault for TelegramFault {
+    ghost number_of = { telegram_number };
+
+    fn number(self) -> u8 {
+        self as u8
     }
 }
 
-impl AnswerFault {
-    pub fn number(self) -> u8
-        ensures { result ≡ answer_number self }
-    {
+impl Fault for AnswerFault {
+    ghost number_of = { answer_number };
+
+    fn number(self) -> u8 {
         match self {
             AnswerFault::Broken(fault) => fault.number(),
             AnswerFault::OtherCommand => 5,
@@ -57,7 +62,9 @@ impl AnswerFault {
             AnswerFault::Content => 9,
         }
     }
+}
 
+impl AnswerFault {
     // The code of the exception, if it is one.
     pub fn code(self) -> Option<u8>
         ensures { result ≡ answer_code self }
@@ -66,6 +73,14 @@ impl AnswerFault {
             AnswerFault::Exception(code) => Some(code),
             _ => None,
         }
+    }
+}
+
+impl From<UnknownCommand> for TelegramFault {
+    ghost from_gives = { λ _ r. r ≡ Command };
+
+    fn from(_unknown: UnknownCommand) -> TelegramFault {
+        TelegramFault::Command
     }
 }
 

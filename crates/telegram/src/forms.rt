@@ -1,9 +1,14 @@
 // Which fields stand between a telegram's command and its checksum, by command.
-ghost use Rattle.std.specs.Prelude.{◌≡◌, ◌≤◌, false};
+ghost use Rattle.std.specs.Prelude.{◌≡◌, ◌≤◌, false, Some, length};
+ghost use Rattle.std.specs.Result.{result_ok};
+ghost use Rattle.telegram.specs.Commands.{byte_of};
+ghost use Rattle.telegram.specs.Layout.{part};
 ghost use Rattle.telegram.specs.Forms.{registers, several, contents, diagnostics, exception, by_serial, question_form, done_form, exception_tells_serial, exception_form, answer_form, fixed, fits, span};
 
+use crate::command::{Command, EXCEPTION, UnknownCommand};
+
 // The fields that a telegram has, in their order on the line.
-#[derive(Clone, Copy)]
+#[derive(Clone, Copy, Default)]
 pub struct Form {
     pub serial: bool,
     pub subfunction: bool,
@@ -14,16 +19,6 @@ pub struct Form {
     pub data: bool,
 }
 
-const NOTHING: Form = Form {
-    serial: false,
-    subfunction: false,
-    register: false,
-    value: false,
-    size: false,
-    code: false,
-    data: false,
-};
-
 impl Form {
     fn registers(serial: bool) -> Form
         ensures { result ≡ registers serial }
@@ -32,7 +27,7 @@ impl Form {
             serial,
             register: true,
             value: true,
-            ..NOTHING
+            ..Form::default()
         }
     }
 
@@ -45,7 +40,7 @@ impl Form {
             value: true,
             size: true,
             data: true,
-            ..NOTHING
+            ..Form::default()
         }
     }
 
@@ -56,7 +51,7 @@ impl Form {
             serial,
             size: true,
             data: true,
-            ..NOTHING
+            ..Form::default()
         }
     }
 
@@ -66,7 +61,7 @@ impl Form {
         Form {
             subfunction: true,
             data: true,
-            ..NOTHING
+            ..Form::default()
         }
     }
 
@@ -76,57 +71,53 @@ impl Form {
         Form {
             serial,
             code: true,
-            ..NOTHING
+            ..Form::default()
         }
     }
 
-    pub fn of_question(command: u8) -> Option<Form>
-        ensures { result ≡ question_form command }
+    pub fn of_question(command: Command) -> Form
+        ensures { Some result ≡ question_form (byte_of command) }
     {
         match command {
-            0x03 | 0x04 | 0x06 => Some(Form::registers(false)),
-            0x08 => Some(Form::diagnostics()),
-            0x10 => Some(Form::several(false)),
-            0x43 | 0x44 | 0x46 => Some(Form::registers(true)),
-            0x50 => Some(Form::several(true)),
-            _ => None,
+            Command::ReadHolding | Command::ReadInput | Command::WriteOne => Form::registers(false),
+            Command::Diagnostics => Form::diagnostics(),
+            Command::WriteSeveral => Form::several(false),
+            Command::ReadHoldingBySerial | Command::ReadInputBySerial | Command::WriteOneBySerial =>
+                Form::registers(true),
+            Command::WriteSeveralBySerial => Form::several(true),
         }
     }
 
-    fn of_done(command: u8) -> Option<Form>
-        ensures { result ≡ done_form command }
+    fn of_done(command: Command) -> Form
+        ensures { Some result ≡ done_form (byte_of command) }
     {
         match command {
-            0x03 | 0x04 => Some(Form::contents(false)),
-            0x06 | 0x10 => Some(Form::registers(false)),
-            0x08 => Some(Form::diagnostics()),
-            0x43 | 0x44 => Some(Form::contents(true)),
-            0x46 | 0x50 => Some(Form::registers(true)),
-            _ => None,
+            Command::ReadHolding | Command::ReadInput => Form::contents(false),
+            Command::WriteOne | Command::WriteSeveral => Form::registers(false),
+            Command::Diagnostics => Form::diagnostics(),
+            Command::ReadHoldingBySerial | Command::ReadInputBySerial => Form::contents(true),
+            Command::WriteOneBySerial | Command::WriteSeveralBySerial => Form::registers(true),
         }
     }
 
-    fn of_exception(command: u8, code: u8) -> Option<Form>
-        ensures { result ≡ exception_form command code }
+    fn of_exception(command: Command, code: u8) -> Form
+        ensures { Some result ≡ exception_form (byte_of command) code }
     {
-        match command {
-            0x03 | 0x04 | 0x06 | 0x08 | 0x10 => Some(Form::exception(false)),
-            0x43 | 0x44 | 0x46 | 0x50 => Some(Form::exception(tells_serial(command, code))),
-            _ => None,
-        }
+        Form::exception(tells_serial(command.byte(), code))
     }
 
-    pub fn of_answer(command: u8, code: u8) -> Option<Form>
-        ensures { result ≡ answer_form command code }
+    #[tactic(auto, using(crate::proofs::Commands::answer_form_unknown, crate::proofs::Commands::answer_form_unknown_raised))]
+    pub fn of_answer(command: u8, code: u8) -> Result<Form, UnknownCommand>
+        ensures { result_ok result ≡ answer_form command code }
     {
-        if command < 0x80 {
-            Form::of_done(command)
+        if command < EXCEPTION {
+            Ok(Form::of_done(Command::try_from(command)?))
         } else {
-            Form::of_exception(command - 0x80, code)
+            Ok(Form::of_exception(Command::try_from(command - EXCEPTION)?, code))
         }
     }
 
-    // How many bytes stand before the data.
+    // How many bytes stand before the data. Pairs of flag and size in a list would name each field again and add no less.
     pub fn fixed(&self) -> usize
         ensures value { result ≡ fixed self.now }
         ensures small { result ≤ 15 }
@@ -152,18 +143,22 @@ impl Form {
     }
 }
 
-// So many bytes where the field is there.
-pub fn spanned(has: bool, n: usize) -> usize
+// So many bytes where the field is there. The flag is the form's, as in `part`.
+fn spanned(has: bool, n: usize) -> usize
     ensures { result ≡ span has n }
 {
     if has { n } else { 0 }
 }
 
 // Whether a command addresses by serial: 43, 44, 46 and 50 do.
+#[tactic(auto, using(crate::proofs::Commands::by_serial_unknown))]
 pub fn is_by_serial(command: u8) -> bool
     ensures { result ≡ by_serial command }
 {
-    matches!(command, 0x43 | 0x44 | 0x46 | 0x50)
+    match Command::try_from(command) {
+        Ok(command) => command.is_by_serial(),
+        Err(UnknownCommand) => false,
+    }
 }
 
 // Whether an exception to the command holds the serial.
@@ -171,4 +166,13 @@ pub fn tells_serial(command: u8, code: u8) -> bool
     ensures { result ≡ exception_tells_serial command code }
 {
     is_by_serial(command) && code != 1
+}
+
+// The bytes of a field that the form has, or of the data. A form is seven flags: an Option in place of the flag would be made
+// here and taken apart at once.
+pub fn part(has: bool, bytes: &[u8]) -> &[u8]
+    ensures bytes { result.now ≡ part has bytes.now }
+    ensures long { length result.now ≡ span has (length bytes.now) }
+{
+    if has { bytes } else { &[] }
 }

@@ -2,6 +2,7 @@
 #![tactic(auto)]
 
 mod answer;
+mod command;
 mod envelope;
 mod fault;
 mod forms;
@@ -10,8 +11,9 @@ mod reading;
 mod writing;
 
 pub use answer::read_answer_to;
+pub use command::{Command, UnknownCommand};
 pub use envelope::{Envelope, open_telegram};
-pub use fault::{AnswerFault, TelegramFault};
+pub use fault::{AnswerFault, Fault, TelegramFault};
 pub use forms::is_by_serial;
 pub use message::Telegram;
 pub use reading::{read_answer, read_question};

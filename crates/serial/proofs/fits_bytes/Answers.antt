@@ -1,20 +1,12 @@
-use Rattle.std.proofs.Common.{drop, sym, ◌∙◌, arith}
-use Rattle.serial.specs.Six.{fitting}
-use Rattle.std.proofs.lemmas.List.{at_drop_all}
-use Rattle.std.proofs.lemmas.Bool.Decides.{nat_tests}
-use Rattle.serial.proofs.Bytes.{fitting_step}
+use Rattle.std.proofs.Common.{◌∙◌, arith, rules, tests}
+use Rattle.std.proofs.lemmas.Iterator.{YieldsList-from_slice, YieldsList-from_zip}
+use Rattle.std.proofs.lemmas.Iterator.Search.{all_from_yields_List}
+use Rattle.serial.proofs.Bytes.{fits_place, fitting-from_pairs}
 use Rattle.serial.proofs.fits_bytes.Goals as goal
-
-pub returns-then-mask-i : goal.returns-then-mask-i
-returns-then-mask-i c =
-    let s = fitting_step c.args.mask c.args.bytes c.loop-i.i (omega arith) (omega arith) in
-    grind (arith, nat_tests)
-
-pub loop-i-preserved : goal.loop-i-preserved
-loop-i-preserved c =
-    let s = fitting_step c.args.mask c.args.bytes c.loop-i.i (omega arith) (omega arith) in
-    grind (arith, nat_tests)
 
 pub returns : goal.returns
 returns c =
-    sym (at_drop_all (λ l. fitting l (drop c.loop-i.i c.args.bytes)) c.args.mask c.loop-i.i (omega arith)) ∙ c.loop-i.invariant
+    let m = c.args.mask in
+    let b = c.args.bytes in
+    all_from_yields_List fits_place c.all.new.self _ _ c.all.ensures.ran (YieldsList-from_zip (YieldsList-from_slice m cc) (YieldsList-from_slice b cc)) (λ x t q k. search (rules, tests))
+    ∙ fitting-from_pairs m b (omega arith)

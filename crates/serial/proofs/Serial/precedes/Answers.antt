@@ -1,6 +1,8 @@
-use Rattle.std.proofs.Common.{rules}
-use Rattle.serial.proofs.Serials.{before-from-ltb}
+use Rattle.std.proofs.Common.{◌≡◌, ltb, ◌∙◌, sym, rules}
+use Rattle.serial.proofs.Serials.{serial-before}
 use Rattle.serial.proofs.Serial.precedes.Goals as goal
 
-pub returns : goal.returns
-returns c = record { number = search rules; bytes = before-from-ltb c.args.self c.args.other _ (search rules) }
+pub returns-clause-bytes : goal.returns-clause-bytes
+returns-clause-bytes c =
+    let number : c.lt.result ≡ ltb c.args.self.value c.args.other.value = search rules in
+    number ∙ sym (serial-before c.args.self c.args.other)

@@ -6,8 +6,8 @@ use Rattle.telegram.specs.Writes.{question}
 use Rattle.telegram.proofs.Accepts.{accepted_question, made-shown}
 use Rattle.telegram.proofs.reading.read_question.Goals as goal
 
-pub returns : goal.returns
-returns c =
+pub returns-clause-accepted : goal.returns-clause-accepted
+returns-clause-accepted c =
     let bs = c.args.bytes.now in
     let is : shown fields c.question.result ≡ read_question_result bs = c.question.ensures ∙ ap (λ (r : Result Opened TelegramFault). and_then r as_question) c.in_ok-open_telegram.ensures in
-    record { value = is; accepted = made-shown fields (λ f. question f ≡ bs) c.question.result (read_question_result bs) is (accepted_question bs (λ i. (c.type_inv.bytes i).fits)) }
+    made-shown fields (λ f. question f ≡ bs) c.question.result (read_question_result bs) is (accepted_question bs (λ i. (c.type_inv.bytes i).fits))

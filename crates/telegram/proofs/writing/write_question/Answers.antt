@@ -1,19 +1,21 @@
-use Rattle.std.proofs.Common.{◌≡◌, length, Option, sym, ap, ◌∙◌, rules}
+use Rattle.std.proofs.Common.{length, Option, sym, ap, ◌∙◌, rules}
 use Rattle.telegram.specs.declared.forms.Form.{Form}
+use Rattle.telegram.specs.Forms.{question_form}
 use Rattle.telegram.specs.Layout.{encode}
 use Rattle.telegram.specs.Parts.{fields}
 use Rattle.telegram.specs.Reads.{read_question_result}
-use Rattle.telegram.specs.Writes.{or_none, question, write_as_result, write_question_result, filled}
+use Rattle.telegram.specs.Writes.{or_none, question, write_as_result, filled}
 use Rattle.telegram.proofs.Bodies.{Sized}
 use Rattle.telegram.proofs.Accepts.{question-back, reads-back}
 use Rattle.telegram.proofs.writing.write_question.Goals as goal
 
-pub returns : goal.returns
-returns c =
+pub returns-clause-back : goal.returns-clause-back
+returns-clause-back c =
     let f = fields c.args.q.now in
     let b = c.args.buffer.now in
     let r = c.write_as.result in
     let s : Sized f = record { six = search rules; subfunction16 = search rules; register16 = search rules; value16 = search rules } in
-    let is : r ≡ write_question_result f (length b) = c.write_as.ensures.value ∙ ap (λ (form : Option Form). write_as_result form f (length b)) c.of_question.ensures in
-    let bytes : c.write_as.new.buffer ≡ filled r (question f) b = c.write_as.ensures.bytes ∙ ap (λ (form : Option Form). filled r (encode (or_none form) f) b) c.of_question.ensures in
-    record { value = is; bytes = bytes; back = reads-back read_question_result _ (question f) b _ r bytes (λ n e. question-back f s (length b) n (sym is ∙ e)) }
+    let form = c.of_question.ensures ∙ ap question_form c.in_ok-command.ensures in
+    reads-back read_question_result _ (question f) b _ r
+    (c.write_as.ensures.bytes ∙ ap (λ (k : Option Form). filled r (encode (or_none k) f) b) form)
+    (λ n e. question-back f s (length b) n (ap (λ (k : Option Form). write_as_result k f (length b)) (sym form) ∙ sym c.write_as.ensures.value ∙ e))
