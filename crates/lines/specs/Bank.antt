@@ -45,6 +45,9 @@ module _ {S : Type 0} (m : Ghosts S) where
   abbrev pub states : List (Option S) → List (Option m.State)
   states row = map (option_map m.state) row
 
+  abbrev pub shown : Option S → Option Socket
+  shown o = socket_of m.speaks m.card (option_map m.state o)
+
   abbrev pub sockets_of : List (Option S) → List (Option Socket)
   sockets_of row = map (socket_of m.speaks m.card) (states row)
 

@@ -1,11 +1,17 @@
 -- What a bank in memory is as a value, and that it keeps the laws of a line.
-use Rattle.std.specs.Prelude.{take}
+use Rattle.std.specs.Prelude.{◌≡◌, List, take, drop}
+use Rattle.std.specs.Borrow.{MutBor}
 use Rattle.wall.specs.declared.station.Station.{Ghosts}
 use Rattle.wall.specs.Wall.{Wall}
 use Rattle.wall.specs.LineLaws.{LineLaws}
 use Rattle.lines.specs.declared.bank.Bank.{Bank}
 use Rattle.lines.specs.Bank.{BankState, bank_wall, bank_reply, bank_next, bank_fits, bank_pulls, states}
 use Rattle.lines.specs.LawsOfBanks.{bank_laws_of}
+
+-- what every call leaves of the lent row: the places past the first 64, and whose it is
+pub record SameLoan {X : Type 0} (before after : MutBor (List X)) : Type 0 where
+  pub rest : drop 64 after.now ≡ drop 64 before.now
+  pub lender : after.ghost_name ≡ before.ghost_name
 
 module _ {S : Type 0} (m : Ghosts S) where
   -- of the row the first 64 places

@@ -17,10 +17,7 @@ use Rattle.lines.specs.Bank.{BankState, socket_of, said_in, become_in, bank_wall
 -- what the rules of a wall with one station say of the station
 
 one-said : (x y : Option (List ℕ)) → together (x ∷ []) ≡ together (y ∷ []) → x ≡ y
-one-said None None e = refl
-one-said None (Some b) e = cc
-one-said (Some a) None e = cc
-one-said (Some a) (Some b) e = cc
+one-said x y e = grind arith
 
 abbrev card_or : Card → Option Card → Card
 card_or d None = d
@@ -35,20 +32,18 @@ one-card : (c : Card) (w v : Wall) → w ≡ v → card_in c w.sockets ≡ card_
 one-card c w v e = ap (λ (u : Wall). card_in c u.sockets) e
 
 probed-one : (a : ℕ) (k : Bool) (x : Option (List ℕ)) → Probed a (cond k 1 0) (together (x ∷ [])) → (length (somes (x ∷ [])) ≡ cond k 1 0) × ((bytes : List ℕ) → x ≡ Some bytes → (rest : List ℕ) × (bytes ≡ a ∷ rest))
-probed-one a true None p = (let z = p.1 in cc, λ bytes e. let z : ◌≡◌ {A = ℕ} 0 1 = cc in absurd (omega arith))
+probed-one a true None p = (let z = p.1 in cc, λ bytes e. cc)
 probed-one a true (Some b) p = (refl, λ bytes e. (p.0, let z = p.1 in cc))
-probed-one a false None p = (refl, λ bytes e. let z : ◌≡◌ {A = ℕ} 0 1 = cc in absurd (omega arith))
-probed-one a false (Some b) p = (cc, λ bytes e. let z : ◌≡◌ {A = ℕ} 0 1 = cc in absurd (omega arith))
+probed-one a false None p = (refl, λ bytes e. cc)
+probed-one a false (Some b) p = (cc, λ bytes e. cc)
 
 -- lists of what is said
 
 length-somes : {X : Type 0} (o : Option X) (os : List (Option X)) → length (somes (o ∷ os)) ≡ length (somes (o ∷ [])) + length (somes os)
-length-somes None os = omega arith
-length-somes (Some x) os = omega arith
+length-somes o os = grind arith
 
 somes_cons : {X : Type 0} (o : Option X) (os us : List (Option X)) → somes os ≡ somes us → somes (o ∷ os) ≡ somes (o ∷ us)
-somes_cons None os us e = e
-somes_cons (Some x) os us e = ap (λ xs. x ∷ xs) e
+somes_cons o os us e = grind arith
 
 -- each of these begins with the address
 abbrev Begins : ℕ → List (List ℕ) → Type 0

@@ -1,33 +1,23 @@
 -- The laws of a feeder, from those of its line.
-use Rattle.std.specs.Prelude.{◌≡◌, ℕ, Bool, true, false, cond, ◌&&◌, List, [], ◌∷◌, map, Some, None, Option, slice_set, refl}
-use Rattle.std.proofs.Common.{sym, ap, subst, ◌∙◌}
+use Rattle.std.specs.Prelude.{◌≡◌, ℕ, Bool, true, false, List, [], ◌∷◌, map, Some, None, Option, slice_set, refl}
+use Rattle.std.proofs.Common.{sym, ap, subst, ◌∙◌, arith}
 use Rattle.std.proofs.Math.ListN.{get_or-map}
 use Rattle.std.proofs.lemmas.List.{map-set}
-use Rattle.std.specs.Option.{option_map}
 use Rattle.wall.specs.declared.card.Card.{Card}
 use Rattle.wall.specs.declared.card.Socket.{Socket}
 use Rattle.wall.specs.Counts.{one_more}
 use Rattle.wall.specs.Wall.{Wall, Reply, silence, somes, together, heard_in, changed_in, GoodSocket, GoodSockets}
 use Rattle.wall.specs.Laws.{new_card}
 use Rattle.wall.specs.Rules.{Rules, Probed, hits, if_bears, found, store_said, storing, adopt_said, adopting}
-use Rattle.wall.specs.Lines.{at, holding, fit_fault_at, pull_fault_at}
+use Rattle.wall.specs.Lines.{at, fit_fault_at, pull_fault_at, holding}
 use Rattle.wall.specs.LineLaws.{LineLaws}
 use Rattle.wall.proofs.Lines.{line_laws}
 use Rattle.lines.specs.Feeder.{FeederState, gate, feeder_wall, feeder_reply, feeder_next, feeder_fits, feeder_pulls}
 
-and_true : (b : Bool) → (b && true) ≡ b
-and_true true = refl
-and_true false = refl
-
-and_false : (b : Bool) → (b && false) ≡ false
-and_false true = refl
-and_false false = refl
-
 -- a feeder that is on shows its line as it is
 
 on_one : (o : Option Socket) → gate true o ≡ o
-on_one None = refl
-on_one (Some s) = ap (λ b. Some (record { live = b; speaks = s.speaks; station = s.station })) (and_true s.live)
+on_one o = grind arith
 
 on-all : (ss : List (Option Socket)) → map (gate true) ss ≡ ss
 on-all [] = refl
@@ -68,7 +58,7 @@ unheard n ss t none still =
     }
 
 off_heard : (s : Socket) → heard_in (gate false (Some s)) ≡ None
-off_heard s = ap (λ b. cond b s.station None) (and_false s.live)
+off_heard s = grind arith
 
 off_heards : (ss : List (Option Socket)) → somes (map heard_in (map (gate false) ss)) ≡ []
 off_heards [] = refl
@@ -76,8 +66,7 @@ off_heards (None ∷ ss) = off_heards ss
 off_heards (Some s ∷ ss) = ap (λ (o : Option Card). somes (o ∷ map heard_in (map (gate false) ss))) (off_heard s) ∙ off_heards ss
 
 off_one : (f : Card → Card) (o : Option Socket) → gate false o ≡ changed_in f (gate false o)
-off_one f None = refl
-off_one f (Some s) = ap (λ b. Some (record { live = s.live && false; speaks = s.speaks; station = cond b (option_map f s.station) s.station })) (sym (and_false s.live))
+off_one f o = grind arith
 
 off_all : (f : Card → Card) (ss : List (Option Socket)) → map (gate false) ss ≡ map (changed_in f) (map (gate false) ss)
 off_all f [] = refl
@@ -91,28 +80,27 @@ module _ {X : Type 0} (wall : X → Wall) (reply : X → List ℕ → Reply) (ne
       (retallied n (wall x) (wall (next x t)) t (reply x t) (law x t)))
   rules-at false x n t = unheard n (map (gate false) (wall x).sockets) t (off_heards (wall x).sockets) (λ f. off_all f (wall x).sockets)
 
--- sockets behind the switch, for fit, pull and reading
+-- sockets behind the switch, for fit and pull
 
 pub at-gate : (on : Bool) (ss : List (Option Socket)) (n : ℕ) → at (map (gate on) ss) n ≡ gate on (at ss n)
 at-gate on ss n = get_or-map (gate on) ss n None
 
+-- a switch changes nothing of what is refused
+
 fit-fault-one : (on : Bool) (o : Option Socket) (serial : List ℕ) (address : ℕ) → fit_fault_at (gate on o) serial address ≡ fit_fault_at o serial address
-fit-fault-one on None serial address = refl
-fit-fault-one on (Some s) serial address = refl
+fit-fault-one on o serial address = grind arith
 
 pub fit-fault-gate : (on : Bool) (ss : List (Option Socket)) (n : ℕ) (serial : List ℕ) (address : ℕ) → fit_fault_at (at (map (gate on) ss) n) serial address ≡ fit_fault_at (at ss n) serial address
 fit-fault-gate on ss n serial address = ap (λ (o : Option Socket). fit_fault_at o serial address) (at-gate on ss n) ∙ fit-fault-one on (at ss n) serial address
 
 pull-fault-one : (on : Bool) (o : Option Socket) → pull_fault_at (gate on o) ≡ pull_fault_at o
-pull-fault-one on None = refl
-pull-fault-one on (Some s) = refl
+pull-fault-one on o = grind arith
 
 pub pull-fault-gate : (on : Bool) (ss : List (Option Socket)) (n : ℕ) → pull_fault_at (at (map (gate on) ss) n) ≡ pull_fault_at (at ss n)
 pull-fault-gate on ss n = ap pull_fault_at (at-gate on ss n) ∙ pull-fault-one on (at ss n)
 
 gate-holding : (on : Bool) (station : Bool → Option Card) (o : Option Socket) → gate on (holding station o) ≡ holding station (gate on o)
-gate-holding on station None = refl
-gate-holding on station (Some s) = refl
+gate-holding on station o = grind arith
 
 gate-refilled : (on : Bool) (station : Bool → Option Card) (ss : List (Option Socket)) (n : ℕ) → map (gate on) (slice_set ss n (holding station (at ss n))) ≡ slice_set (map (gate on) ss) n (holding station (at (map (gate on) ss) n))
 gate-refilled on station ss n = map-set (gate on) ss n (holding station (at ss n)) ∙ ap (slice_set (map (gate on) ss) n) (gate-holding on station (at ss n) ∙ sym (ap (holding station) (at-gate on ss n)))

@@ -20,45 +20,19 @@ Sockets = List (Option Socket)
 -- two replies on one wire, in any order and any grouping
 
 pub both-silence : (r : Reply) → both r silence ≡ r
-both-silence silence = refl
-both-silence (answer a) = refl
-both-silence clash = refl
+both-silence r = grind arith
 
 both_swap : (r s : Reply) → both r s ≡ both s r
-both_swap silence silence = refl
-both_swap silence (answer b) = refl
-both_swap silence clash = refl
-both_swap (answer a) silence = refl
-both_swap (answer a) (answer b) = refl
-both_swap (answer a) clash = refl
-both_swap clash silence = refl
-both_swap clash (answer b) = refl
-both_swap clash clash = refl
+both_swap r s = grind arith
 
 pub both_assoc : (r s u : Reply) → both (both r s) u ≡ both r (both s u)
-both_assoc silence s u = refl
-both_assoc (answer a) silence u = refl
-both_assoc (answer a) (answer b) silence = refl
-both_assoc (answer a) (answer b) (answer c) = refl
-both_assoc (answer a) (answer b) clash = refl
-both_assoc (answer a) clash silence = refl
-both_assoc (answer a) clash (answer c) = refl
-both_assoc (answer a) clash clash = refl
-both_assoc clash silence u = refl
-both_assoc clash (answer b) silence = refl
-both_assoc clash (answer b) (answer c) = refl
-both_assoc clash (answer b) clash = refl
-both_assoc clash clash silence = refl
-both_assoc clash clash (answer c) = refl
-both_assoc clash clash clash = refl
+both_assoc r s u = grind arith
 
 both_pairs : (a b r s : Reply) → both a (both b (both r s)) ≡ both (both a r) (both b s)
-both_pairs a b r s = ap (both a) (sym (both_assoc b r s) ∙ ap (λ u. both u s) (both_swap b r) ∙ both_assoc r b s) ∙ sym (both_assoc a r (both b s))
+both_pairs a b r s = grind arith
 
 joined_cons : (a : List ℕ) (xs : List (List ℕ)) → joined (a ∷ xs) ≡ both (answer a) (joined xs)
-joined_cons a [] = refl
-joined_cons a (b ∷ []) = refl
-joined_cons a (b ∷ c ∷ xs) = refl
+joined_cons a xs = grind arith
 
 pub together_cons : (o : Option (List ℕ)) (os : List (Option (List ℕ))) → together (o ∷ os) ≡ both (together (o ∷ [])) (together os)
 together_cons None os = refl
@@ -79,19 +53,26 @@ module _ (f : Card → Option (List ℕ)) where
 
   said-woven : (xs ys : Sockets) → said_by (woven xs ys) ≡ both (said_by xs) (said_by ys)
   said-woven [] [] = refl
-  said-woven [] (y ∷ ys) = said_cons y (woven [] ys) ∙ ap (both (said_by (y ∷ []))) (said-woven [] ys) ∙ sym (said_cons y ys)
-  said-woven (x ∷ xs) [] = said_cons x (None ∷ woven xs []) ∙ ap (both (said_by (x ∷ []))) (said-woven xs []) ∙ sym (both_assoc (said_by (x ∷ [])) (said_by xs) silence) ∙ ap (λ r. both r silence) (sym (said_cons x xs))
+  said-woven [] (y ∷ ys) = let p = said_cons y (woven [] ys) in let r = said-woven [] ys in let u = said_cons y ys in cc
+  said-woven (x ∷ xs) [] =
+      let p = said_cons x (None ∷ woven xs []) in
+      let r = said-woven xs [] in
+      let u = said_cons x xs in
+      let a = both_assoc (said_by (x ∷ [])) (said_by xs) silence in
+      cc
   said-woven (x ∷ xs) (y ∷ ys) =
-      said_cons x (y ∷ woven xs ys)
-      ∙ ap (both (said_by (x ∷ []))) (said_cons y (woven xs ys) ∙ ap (both (said_by (y ∷ []))) (said-woven xs ys))
-      ∙ both_pairs (said_by (x ∷ [])) (said_by (y ∷ [])) (said_by xs) (said_by ys)
-      ∙ sym (λ i. both (said_cons x xs i) (said_cons y ys i))
+      let p = said_cons x (y ∷ woven xs ys) in
+      let q = said_cons y (woven xs ys) in
+      let r = said-woven xs ys in
+      let u = said_cons x xs in
+      let v = said_cons y ys in
+      let a = both_pairs (said_by (x ∷ [])) (said_by (y ∷ [])) (said_by xs) (said_by ys) in
+      cc
 
 -- as many have an address in force as in both lines together
 
 pub hit_one : (k : Bool) (n : ℕ) → cond k (suc n) n ≡ cond k 1 0 + n
-hit_one true n = omega arith
-hit_one false n = omega arith
+hit_one k n = grind arith
 
 module _ (a : ℕ) where
   abbrev hits_in : Sockets → ℕ

@@ -3,8 +3,7 @@ ghost use Rattle.std.specs.Prelude.{◌≡◌, true};
 ghost use Rattle.lines.specs.Feeder.{FeederState, gate, feeder_wall, feeder_reply, feeder_next, feeder_fits, feeder_pulls};
 ghost use Rattle.lines.specs.Feeders.{feeder_state, feeder_laws};
 
-use crate::blend::quiet;
-use wall::{FitFault, Line, Outcome, PullFault, ShortBuffer, Socket, Tally};
+use wall::{FitFault, Line, Newcomer, Outcome, PullFault, ShortBuffer, Socket, Tally};
 
 // Switched off, none of its sockets is live, and ask passes nothing on.
 #[derive(Drop)]
@@ -44,12 +43,7 @@ impl<L: Line> Feeder<L> {
     pub fn into_line(self) -> L
         ensures { result ≡ self.line }
     {
-        let Feeder {
-            line,
-            on: _,
-            tally: _,
-        } = self;
-        line
+        self.line
     }
 }
 
@@ -57,14 +51,10 @@ impl<L: Line> Feeder<L> {
 fn behind(socket: Option<Socket>, on: bool) -> Option<Socket>
     ensures { result ≡ gate on socket }
 {
-    match socket {
-        Some(s) => Some(Socket {
-            live: s.live && on,
-            speaks: s.speaks,
-            station: s.station,
-        }),
-        None => None,
-    }
+    socket.map(|s| Socket {
+        live: s.live && on,
+        ..s
+    })
 }
 
 impl<L: Line> Line for Feeder<L> {
@@ -84,14 +74,8 @@ impl<L: Line> Line for Feeder<L> {
 
     ghost laws = { feeder_laws L.Line };
 
-    fn fit(
-        &mut self,
-        socket: u32,
-        serial: [u8; 6],
-        address: u8,
-        defective: bool,
-    ) -> Result<(), FitFault> {
-        self.line.fit(socket, serial, address, defective)
+    fn fit(&mut self, socket: u32, newcomer: Newcomer) -> Result<(), FitFault> {
+        self.line.fit(socket, newcomer)
     }
 
     fn pull(&mut self, socket: u32) -> Result<(), PullFault> {
@@ -99,14 +83,12 @@ impl<L: Line> Line for Feeder<L> {
     }
 
     fn ask(&mut self, telegram: &[u8], buffer: &mut [u8]) -> Result<Outcome, ShortBuffer> {
-        if buffer.len() < 23 {
-            return Err(ShortBuffer);
-        }
+        let front = buffer.first_chunk_mut::<23>().ok_or(ShortBuffer)?;
         self.tally.count();
         if self.on {
-            self.line.ask(telegram, buffer)
+            self.line.ask(telegram, front)
         } else {
-            quiet(buffer);
+            *front = [0; 23];
             Ok(Outcome::Silence)
         }
     }

@@ -1,12 +1,13 @@
 // A joint: two lines as one.
-ghost use Rattle.std.specs.Prelude.{◌≡◌, length, replicate, Ok};
+ghost use Rattle.std.specs.Prelude.{◌≡◌, ◌/◌, cond, replicate, Ok};
 ghost use Rattle.wall.specs.Lines.{outcome_of, asked_buffer};
 ghost use Rattle.lines.specs.Blends.{blended, kept};
 ghost use Rattle.lines.specs.Joint.{JointState, even, joint_wall, joint_reply, joint_next, joint_fits, joint_pulls};
+ghost use Rattle.lines.specs.declared.joint.Side.TheVariants.{Left, Right};
 ghost use Rattle.lines.specs.Joints.{joint_state, Sides, joint_laws};
 
 use crate::blend::blend;
-use wall::{FitFault, Line, Outcome, PullFault, ShortBuffer, Socket, Tally};
+use wall::{FitFault, Line, Newcomer, Outcome, PullFault, ShortBuffer, Socket, Tally};
 
 // Socket 2n is the left line's n, socket 2n + 1 the right line's n. Where one line is longer there are gaps.
 #[derive(Drop)]
@@ -33,20 +34,26 @@ impl<P: Line, Q: Line> Joint<P, Q> {
     pub fn into_lines(self) -> (P, Q)
         ensures { result ≡ (self.left, self.right) }
     {
-        let Joint {
-            left,
-            right,
-            tally: _,
-        } = self;
-        (left, right)
+        (self.left, self.right)
     }
 }
 
+// Whose a socket is, with its number there.
+#[derive(Clone, Copy)]
+enum Side {
+    Left(u32),
+    Right(u32),
+}
+
 // Even numbers are the left line's.
-fn is_left(socket: u32) -> bool
-    ensures { result ≡ even socket }
+fn side_of(socket: u32) -> Side
+    ensures { result ≡ cond (even socket) (Left (socket / 2)) (Right (socket / 2)) }
 {
-    socket % 2 == 0
+    if socket % 2 == 0 {
+        Side::Left(socket / 2)
+    } else {
+        Side::Right(socket / 2)
+    }
 }
 
 // Asks a line, and blends its outcome with what was heard before, whose bytes are in the front.
@@ -54,9 +61,8 @@ fn ask_beside<L: Line>(
     line: &mut L,
     telegram: &[u8],
     heard: Outcome,
-    front: &mut [u8],
+    front: &mut [u8; 23],
 ) -> Result<Outcome, ShortBuffer>
-    requires { length front.old ≡ 23 }
     ensures value { result ≡ Ok (blended heard (outcome_of (L.Line.reply (L.Line.state line.old) telegram.now))) }
     ensures bytes { front.new ≡ kept heard (outcome_of (L.Line.reply (L.Line.state line.old) telegram.now)) front.old (asked_buffer (L.Line.reply (L.Line.state line.old) telegram.now) (replicate 23 0)) }
     ensures after { L.Line.state line.new ≡ L.Line.next (L.Line.state line.old) telegram.now }
@@ -83,42 +89,31 @@ impl<P: Line, Q: Line> Line for Joint<P, Q> {
 
     ghost laws = { joint_laws P.Line Q.Line };
 
-    fn fit(
-        &mut self,
-        socket: u32,
-        serial: [u8; 6],
-        address: u8,
-        defective: bool,
-    ) -> Result<(), FitFault> {
-        if is_left(socket) {
-            self.left.fit(socket / 2, serial, address, defective)
-        } else {
-            self.right.fit(socket / 2, serial, address, defective)
+    fn fit(&mut self, socket: u32, newcomer: Newcomer) -> Result<(), FitFault> {
+        match side_of(socket) {
+            Side::Left(n) => self.left.fit(n, newcomer),
+            Side::Right(n) => self.right.fit(n, newcomer),
         }
     }
 
     fn pull(&mut self, socket: u32) -> Result<(), PullFault> {
-        if is_left(socket) {
-            self.left.pull(socket / 2)
-        } else {
-            self.right.pull(socket / 2)
+        match side_of(socket) {
+            Side::Left(n) => self.left.pull(n),
+            Side::Right(n) => self.right.pull(n),
         }
     }
 
     fn ask(&mut self, telegram: &[u8], buffer: &mut [u8]) -> Result<Outcome, ShortBuffer> {
-        if buffer.len() < 23 {
-            return Err(ShortBuffer);
-        }
+        let front = buffer.first_chunk_mut::<23>().ok_or(ShortBuffer)?;
         self.tally.count();
-        let first = self.left.ask(telegram, buffer)?;
-        ask_beside(&mut self.right, telegram, first, &mut buffer[0..23])
+        let first = self.left.ask(telegram, front)?;
+        ask_beside(&mut self.right, telegram, first, front)
     }
 
     fn socket(&self, n: u32) -> Option<Socket> {
-        if is_left(n) {
-            self.left.socket(n / 2)
-        } else {
-            self.right.socket(n / 2)
+        match side_of(n) {
+            Side::Left(n) => self.left.socket(n),
+            Side::Right(n) => self.right.socket(n),
         }
     }
 

@@ -10,6 +10,7 @@ use Rattle.wall.specs.declared.card.Card.{Card}
 use Rattle.stations.specs.declared.kind.Kind.{Kind}
 use Rattle.stations.specs.declared.kind.Action.{Action}
 use Rattle.stations.specs.declared.kind.Action.TheVariants.{Echo, ReadHolding, ReadInput, WriteOne, WriteSeveral}
+use Rattle.stations.specs.declared.range.Registers.{Registers}
 use Rattle.stations.specs.declared.kind.Refusal.{Refusal}
 use Rattle.stations.specs.declared.kind.Refusal.TheVariants.{Function, Register, Count, Write}
 use Rattle.stations.specs.Kinds.{speaks, longest, knows, most_read, action, range_of, code_of}
@@ -68,9 +69,9 @@ count_right K WriteOne q = true
 count_right K WriteSeveral q = nat_le 1 q.value && (q.size == 2 * q.value && length q.contents == 2 * q.value)
 
 -- the first and the last of n registers from the one at r on lie in the range
-abbrev pub in_range : Option (ℕ × ℕ) → ℕ → ℕ → Bool
+abbrev pub in_range : Option Registers → ℕ → ℕ → Bool
 in_range None r n = false
-in_range (Some range) r n = nat_le range.0 r && nat_le (r + n) (range.1 + 1)
+in_range (Some range) r n = nat_le range.first r && nat_le (r + n) (range.last + 1)
 
 abbrev pub may_do : State → Action → Fields → Bool
 may_do x Echo q = true

@@ -1,5 +1,6 @@
 -- A station's registers, and what reading and writing them does.
-use Rattle.std.specs.Prelude.{ℕ, zero, suc, ◌+◌, ◌-◌, ◌*◌, ◌/◌, ◌%◌, min, Bool, true, cond, not, ◌&&◌, ◌||◌, List, [], ◌∷◌, ◌++◌, replicate, is_some, ◌==◌, nat_le, slice_index, slice_set}
+use Rattle.std.specs.List.{flat_map}
+use Rattle.std.specs.Prelude.{◌≡◌, ◌≤◌, take, ℕ, zero, suc, ◌+◌, ◌-◌, ◌*◌, ◌/◌, ◌%◌, min, Bool, true, cond, not, ◌&&◌, ◌||◌, List, [], ◌∷◌, ◌++◌, replicate, is_some, ◌==◌, nat_le, slice_index, slice_set}
 use Rattle.telegram.specs.Answers.{is_address}
 use Rattle.telegram.specs.Layout.{word}
 use Rattle.stations.specs.declared.kind.Kind.{Kind}
@@ -52,6 +53,10 @@ register_at K x WriteSeveral r = holding_at x r
 abbrev pub read_out : (ℕ → ℕ) → ℕ → ℕ → List ℕ
 read_out at r zero = []
 read_out at r (suc n) = read_out at r n ++ word (at (r + n))
+
+-- words whose front is the bytes of the registers from the one at r on, for up to nine that there can be
+abbrev pub ReadsOut : (ℕ → ℕ) → ℕ → List (List ℕ) → Type 0
+ReadsOut at r words = (n : ℕ) → n ≤ 9 → r + n ≤ 65536 → take (2 * n) (flat_map (λ x. x) words) ≡ read_out at r n
 
 -- a right by the level held, and a defective station stores nothing from D100 on
 abbrev pub allowed : State → ℕ → Bool

@@ -5,6 +5,8 @@ use Rattle.stations.specs.declared.kind.Kind.{Kind}
 use Rattle.stations.specs.declared.kind.Kind.TheVariants.{Fan, OlderFan, Controller}
 use Rattle.stations.specs.declared.kind.Action.{Action}
 use Rattle.stations.specs.declared.kind.Action.TheVariants.{Echo, ReadHolding, ReadInput, WriteOne, WriteSeveral}
+use Rattle.stations.specs.declared.range.Registers.{Registers}
+use Rattle.stations.specs.Spans.{span}
 use Rattle.stations.specs.declared.kind.Refusal.{Refusal}
 use Rattle.stations.specs.declared.kind.Refusal.TheVariants.{Function, Register, Count, Write}
 
@@ -39,18 +41,18 @@ action c =
     (cond (c == 0x06 || c == 0x46) WriteOne
     (cond (c == 0x10 || c == 0x50) WriteSeveral Echo)))
 
--- the first and the last register; a controller has no holding registers
-abbrev pub holding : Kind → Option (ℕ × ℕ)
-holding Fan = Some (0xD000, 0xD37F)
-holding OlderFan = Some (0xD000, 0xD37F)
+-- the registers that there are; a controller has no holding registers
+abbrev pub holding : Kind → Option Registers
+holding Fan = Some (span 0xD000 0xD37F)
+holding OlderFan = Some (span 0xD000 0xD37F)
 holding Controller = None
 
-abbrev pub input : Kind → Option (ℕ × ℕ)
-input Fan = Some (0xD000, 0xD024)
-input OlderFan = Some (0xD000, 0xD01F)
-input Controller = Some (100, 131)
+abbrev pub input : Kind → Option Registers
+input Fan = Some (span 0xD000 0xD024)
+input OlderFan = Some (span 0xD000 0xD01F)
+input Controller = Some (span 100 131)
 
-abbrev pub range_of : Kind → Action → Option (ℕ × ℕ)
+abbrev pub range_of : Kind → Action → Option Registers
 range_of K Echo = holding K
 range_of K ReadHolding = holding K
 range_of K ReadInput = input K

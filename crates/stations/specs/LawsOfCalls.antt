@@ -88,7 +88,7 @@ adopt_may l = refl
 store_refused_if : (m d : Bool) → m ≡ true → cond (not ((m && not (d && true)) && true)) (Some Write) None ≡ cond d (Some Write) None
 store_refused_if true true e = refl
 store_refused_if true false e = refl
-store_refused_if false d e = let z : ◌≡◌ {A = ℕ} 0 1 = cc in absurd (omega arith)
+store_refused_if false d e = cc
 
 module _ (x : State) (serial : List ℕ) (a : ℕ) (fit : a < 256) where
   abbrev storing_it : Fields
@@ -129,7 +129,7 @@ store-becomes Controller x serial a six fit = ap (λ (c : Call). card Controller
 adopt_refused_if : (m d : Bool) → m ≡ true → cond (not ((m && not (d && false)) && true)) (Some Write) None ≡ None
 adopt_refused_if true true e = refl
 adopt_refused_if true false e = refl
-adopt_refused_if false d e = let z : ◌≡◌ {A = ℕ} 0 1 = cc in absurd (omega arith)
+adopt_refused_if false d e = cc
 
 module _ (x : State) (serial : List ℕ) where
   abbrev adopting_it : Fields

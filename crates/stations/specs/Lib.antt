@@ -1,3 +1,5 @@
+pub mod Names
+pub mod Spans
 pub mod Kinds
 pub mod Rights
 pub mod Device

@@ -12,4 +12,4 @@ state d = record { serial = d.serial.value; address = d.address.value; stored = 
 abbrev pub called : code.Call → Call
 called Nothing = nothing
 called (Unknown c) = unknown c
-called (Asked q) = asked (fields q)
+called (Asked q) = asked (fields q.telegram)

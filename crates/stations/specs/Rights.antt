@@ -1,11 +1,12 @@
 -- Who may write which register.
-use Rattle.std.specs.Prelude.{ℕ, Bool, true, false, cond, ◌&&◌, List, [], ◌∷◌, Some, None, Option, ◌==◌, nat_le}
+use Rattle.std.specs.Prelude.{ℕ, Bool, true, false, cond, List, [], ◌∷◌, Some, None, Option, ◌==◌}
 use Rattle.stations.specs.declared.rights.Level.{Level}
 use Rattle.stations.specs.declared.rights.Level.TheVariants.{EndCustomer, Customer, Factory}
 use Rattle.stations.specs.declared.rights.Right.{Right}
+use Rattle.stations.specs.Spans.{span, among}
 
 abbrev from : ℕ → ℕ → Level → Right
-from first last level = record { first = first; last = last; level = level }
+from first last level = record { registers = span first last; level = level }
 
 -- the registers that may be written, and from which level on; nobody may write the others
 abbrev pub rights : List Right
@@ -16,7 +17,7 @@ rights =
 
 abbrev pub level_in_table : List Right → ℕ → Option Level
 level_in_table [] r = None
-level_in_table (p ∷ ps) r = cond (nat_le p.first r && nat_le r p.last) (Some p.level) (level_in_table ps r)
+level_in_table (p ∷ ps) r = cond (among p.registers r) (Some p.level) (level_in_table ps r)
 
 unfoldable pub level_needed : ℕ → Option Level
 level_needed r = level_in_table rights r

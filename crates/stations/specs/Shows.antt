@@ -1,29 +1,31 @@
--- What each kind shows of its state, and that it keeps the laws of a station.
+-- What a station of a kind shows of its state, and that it keeps the laws of a station.
 use Rattle.std.specs.Prelude.{true, false}
 use Rattle.wall.specs.Laws.{StationLaws}
-use Rattle.stations.specs.declared.stations.Fan.{Fan}
-use Rattle.stations.specs.declared.stations.OlderFan.{OlderFan}
-use Rattle.stations.specs.declared.stations.Controller.{Controller}
+use Rattle.stations.specs.declared.stations.StationOf.{StationOf}
+use Rattle.stations.specs.declared.kind.FanKind.{FanKind}
+use Rattle.stations.specs.declared.kind.OlderFanKind.{OlderFanKind}
+use Rattle.stations.specs.declared.kind.ControllerKind.{ControllerKind}
+use Rattle.stations.specs.declared.kind.Kind.{Kind}
 use Rattle.stations.specs.declared.kind.Kind.TheVariants as kind
+use Rattle.stations.specs.Kinds.{speaks}
 use Rattle.stations.specs.Calls.{card, says, becomes}
 use Rattle.stations.specs.Device.{State, fresh}
 use Rattle.stations.specs.Laws.{device_laws, device_good}
 use Rattle.stations.specs.Parts.{state}
 
-abbrev pub fan_state : Fan → State
-fan_state f = state f.device
+abbrev pub shown_state : {T : Type 0} → StationOf T → State
+shown_state s = state s.device
 
-abbrev pub older_state : OlderFan → State
-older_state f = state f.device
+pub shown_laws : {T : Type 0} (K : Kind) → StationLaws (shown_state {T = T}) (speaks K) (card K) (says K) (becomes K) fresh
+shown_laws {T = T} K = device_laws K (shown_state {T = T}) (λ s. device_good K s.device)
 
-abbrev pub controller_state : Controller → State
-controller_state f = state f.device
+-- each kind
 
-pub fan_laws : StationLaws fan_state true (card kind.Fan) (says kind.Fan) (becomes kind.Fan) fresh
-fan_laws = device_laws kind.Fan fan_state (λ f. device_good kind.Fan f.device)
+pub fan_laws : StationLaws (shown_state {T = FanKind}) true (card kind.Fan) (says kind.Fan) (becomes kind.Fan) fresh
+fan_laws = shown_laws kind.Fan
 
-pub older_laws : StationLaws older_state false (card kind.OlderFan) (says kind.OlderFan) (becomes kind.OlderFan) fresh
-older_laws = device_laws kind.OlderFan older_state (λ f. device_good kind.OlderFan f.device)
+pub older_laws : StationLaws (shown_state {T = OlderFanKind}) false (card kind.OlderFan) (says kind.OlderFan) (becomes kind.OlderFan) fresh
+older_laws = shown_laws kind.OlderFan
 
-pub controller_laws : StationLaws controller_state false (card kind.Controller) (says kind.Controller) (becomes kind.Controller) fresh
-controller_laws = device_laws kind.Controller controller_state (λ f. device_good kind.Controller f.device)
+pub controller_laws : StationLaws (shown_state {T = ControllerKind}) false (card kind.Controller) (says kind.Controller) (becomes kind.Controller) fresh
+controller_laws = shown_laws kind.Controller

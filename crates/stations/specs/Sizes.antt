@@ -39,7 +39,7 @@ pub record Answers (f : Fields) : Type 0 where
 -- what is not refused has its count right
 counted_if : (count : Bool) (rest : Option Refusal) → cond (not count) (Some Count) rest ≡ None → count ≡ true
 counted_if true rest h = refl
-counted_if false rest h = let z : ◌≡◌ {A = ℕ} 0 1 = cc in absurd (omega arith)
+counted_if false rest h = cc
 
 few_if : (b : Bool) → cond b 6 9 ≤ 9
 few_if true = omega arith
@@ -158,12 +158,12 @@ answers_write f a six room h =
 -- a question that a station takes was read from a telegram
 
 untaken : (q : Fields) → nothing ≢ asked q
-untaken q h = let e : ◌≡◌ {A = ℕ} 0 1 = cc in omega arith
+untaken q h = cc
 
 taken_if : (b k z : Bool) (c : ℕ) (inner : Call) (q : Fields) → cond b (cond k inner (cond z nothing (unknown c))) nothing ≡ asked q → inner ≡ asked q
 taken_if true true z c inner q h = h
 taken_if true false true c inner q h = absurd (untaken q h)
-taken_if true false false c inner q h = let e : ◌≡◌ {A = ℕ} 0 1 = cc in absurd (omega arith)
+taken_if true false false c inner q h = cc
 taken_if false k z c inner q h = absurd (untaken q h)
 
 meant_if : (b : Bool) (p q : Fields) → cond b (asked p) nothing ≡ asked q → p ≡ q

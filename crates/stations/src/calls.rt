@@ -1,21 +1,26 @@
 // What a station makes of a telegram.
-ghost use Rattle.std.specs.Prelude.{◌≡◌, ◌+◌, ◌/◌, ◌≤◌, true, false, ◌++◌, length, drop, Some, None};
+ghost use Rattle.std.specs.Prelude.{◌≡◌, ◌≢◌, ◌+◌, ◌<◌, ◌≤◌, ◌++◌, ◌⊎◌, ◌==◌, ◌&&◌, not, length, drop, MatchOption};
 ghost use Rattle.std.specs.Option.{option_map};
-ghost use Rattle.telegram.specs.Parts.{fields};
+ghost use Rattle.telegram.specs.Forms.{by_serial};
+ghost use Rattle.telegram.specs.Parts.{fields, opened};
 ghost use Rattle.telegram.specs.Writes.{answer};
 ghost use Rattle.telegram.proofs.Questions.{IsQuestion};
-ghost use Rattle.wall.specs.Tells.{laid, told_result, told_buffer, told_state};
-ghost use Rattle.stations.specs.Kinds.{action};
+ghost use Rattle.wall.specs.Lines.{done_unless};
+ghost use Rattle.wall.specs.Tells.{laid};
+ghost use Rattle.stations.specs.declared.kind.Action.TheVariants.{Echo};
 ghost use Rattle.stations.specs.Device.{register_at, read_out, all_written};
-ghost use Rattle.stations.specs.Calls.{meant, call, named, payload, count_right, in_range, may_do, refused_by, refusal, told, answer_to, exception, reply, carried, says, becomes};
+ghost use Rattle.stations.specs.Calls.{meant, call, call_in, named, payload, count_right, may_do, refused_by, refusal, told, answer_to, exception, reply, carried};
 ghost use Rattle.stations.specs.Grants.{Granted, Answerable};
 ghost use Rattle.stations.specs.Parts.{state, called};
+ghost use Rattle.stations.specs.Spans.{Starts};
 
 use crate::device::Device;
-use crate::kind::{Action, Kind, Refusal};
+use crate::kind::{Action, FixedKind, Kind, Refusal};
+use crate::question::Question;
+use crate::range::Registers;
+use crate::stations::StationOf;
 use serial::has_no_zero;
-use telegram::{Telegram, is_by_serial, open_telegram, write_answer, write_exception};
-use wall::ShortBuffer;
+use telegram::{Envelope, Telegram, open_telegram, write_answer, write_exception};
 
 // What a telegram is to a station.
 #[derive(Clone, Copy)]
@@ -24,289 +29,263 @@ pub enum Call<'a> {
     Nothing,
     // a command that it does not know
     Unknown(u8),
-    Asked(Telegram<'a>),
+    Asked(Question<'a>),
 }
 
-impl Device {
+impl<K: FixedKind> StationOf<K> {
     // Whether a question is meant for this station: one by serial has a mask.
-    fn is_meant(&self, kind: Kind, q: &Telegram) -> bool
-        ensures { result ≡ meant kind (state self.now) (fields q.now) }
+    fn is_meant(&self, q: &Question) -> bool
+        ensures { result ≡ meant K.KIND (state self.now.device) (fields q.now.telegram) }
     {
-        if !is_by_serial(q.command) {
+        if !q.command.is_by_serial() {
             return true;
         }
-        if kind.speaks() {
-            return self.serial.fits(q.serial);
+        let mask = q.telegram.serial;
+        if K::KIND.speaks() {
+            return self.device.serial.fits(mask);
         }
-        q.address != 0 && has_no_zero(q.serial) && self.serial.fits(q.serial)
+        q.telegram.address != 0 && has_no_zero(mask) && self.device.serial.fits(mask)
     }
 
     // What a telegram is to this station.
-    fn call<'a>(&self, kind: Kind, telegram: &'a [u8]) -> Call<'a>
-        ensures { called result ≡ call kind (state self.now) telegram.now }
+    pub(crate) fn call<'a>(&self, telegram: &'a [u8]) -> Call<'a>
+        ensures { called result ≡ call K.KIND (state self.now.device) telegram.now }
     {
         let Ok(envelope) = open_telegram(telegram) else {
             return Call::Nothing;
         };
-        if telegram.len() > kind.longest()
-            || (envelope.address != 0 && envelope.address != self.address.value())
+        if telegram.len() > K::KIND.longest()
+            || (envelope.address != 0 && envelope.address != self.device.address.value())
         {
             return Call::Nothing;
         }
-        if !kind.knows(envelope.command) {
+        self.call_in(&envelope)
+    }
+
+    // What is in a telegram of good length and checksum that is for this station or for all.
+    fn call_in<'a>(&self, envelope: &Envelope<'a>) -> Call<'a>
+        ensures { called result ≡ call_in K.KIND (state self.now.device) (opened envelope.now) }
+    {
+        let Some(command) = K::KIND.known(envelope.command) else {
             return if envelope.address == 0 {
                 Call::Nothing
             } else {
                 Call::Unknown(envelope.command)
             };
+        };
+        let Ok(telegram) = envelope.question() else {
+            return Call::Nothing;
+        };
+        let q = Question {
+            action: Action::from(command),
+            command,
+            telegram,
+        };
+        if self.is_meant(&q) {
+            Call::Asked(q)
+        } else {
+            Call::Nothing
         }
-        match envelope.question() {
-            Ok(q) => {
-                if self.is_meant(kind, &q) {
-                    Call::Asked(q)
-                } else {
-                    Call::Nothing
-                }
+    }
+}
+
+impl Question<'_> {
+    // The registers that it names, if it names any and they are registers that there can be.
+    fn named(&self) -> Option<Registers>
+        ensures { MatchOption result ((named self.now.action (fields self.now.telegram) ≡ 0) ⊎ (65536 < self.now.telegram.register + named self.now.action (fields self.now.telegram))) (Starts self.now.telegram.register (named self.now.action (fields self.now.telegram))) }
+    {
+        let count = match self.action {
+            Action::Echo => 0,
+            Action::WriteOne => 1,
+            Action::ReadHolding | Action::ReadInput | Action::WriteSeveral => self.telegram.value,
+        };
+        Registers::starting_at(self.telegram.register, count)
+    }
+
+    fn has_right_count(&self, kind: Kind) -> bool
+        ensures { result ≡ count_right kind self.now.action (fields self.now.telegram) }
+    {
+        let count = self.telegram.value;
+        match self.action {
+            Action::Echo | Action::WriteOne => true,
+            Action::ReadHolding | Action::ReadInput => 1 <= count
+                && count <= kind.most_read(self.command),
+            Action::WriteSeveral => {
+                let bytes = 2 * usize::from(count);
+                1 <= count
+                    && usize::from(self.telegram.size) == bytes
+                    && self.telegram.data.len() == bytes
             }
-            Err(_) => Call::Nothing,
         }
     }
-}
 
-// How many registers a question names.
-fn named_by(action: Action, q: &Telegram) -> u16
-    ensures { result ≡ named action (fields q.now) }
-{
-    match action {
-        Action::Echo => 0,
-        Action::WriteOne => 1,
-        Action::ReadHolding | Action::ReadInput | Action::WriteSeveral => q.value,
-    }
-}
-
-fn has_right_count(kind: Kind, action: Action, q: &Telegram) -> bool
-    ensures { result ≡ count_right kind action (fields q.now) }
-{
-    match action {
-        Action::Echo | Action::WriteOne => true,
-        Action::ReadHolding | Action::ReadInput => 1 <= q.value
-            && q.value <= kind.most_read(q.command),
-        Action::WriteSeveral => {
-            let bytes = 2 * q.value as usize;
-            1 <= q.value && q.size as usize == bytes && q.data.len() == bytes
-        }
-    }
-}
-
-// Whether the first and the last of so many registers lie in the range.
-fn is_in_range(range: Option<(u16, u16)>, register: u16, n: u16) -> bool
-    ensures { result ≡ in_range range register n }
-{
-    match range {
-        Some((first, last)) => first <= register && register as u32 + n as u32 <= last as u32 + 1,
-        None => false,
+    // Plain commands to address 0 are not answered.
+    fn is_unanswered(&self) -> bool
+        ensures { result ≡ (self.now.telegram.address == 0 && not (by_serial self.now.telegram.command)) }
+    {
+        self.telegram.address == 0 && !self.command.is_by_serial()
     }
 }
 
 impl Device {
     // Whether the question asks for nothing that this station may not write.
-    fn may_do(&self, action: Action, q: &Telegram) -> bool
-        requires { q.now.register + named action (fields q.now) ≤ 65536 }
-        ensures { result ≡ may_do (state self.now) action (fields q.now) }
+    fn may_do(&self, q: &Question, registers: Registers) -> bool
+        requires { Starts q.now.telegram.register (named q.now.action (fields q.now.telegram)) registers }
+        ensures { result ≡ may_do (state self.now) q.now.action (fields q.now.telegram) }
     {
-        match action {
+        match q.action {
             Action::Echo | Action::ReadHolding | Action::ReadInput => true,
-            Action::WriteOne => self.may_write_all(q.register, 1),
-            Action::WriteSeveral => self.may_write_all(q.register, q.value),
-        }
-    }
-
-    // Why a question about registers is not carried out: first the count, then the registers, then the right.
-    fn refused_by(&self, kind: Kind, action: Action, q: &Telegram) -> Option<Refusal>
-        ensures { result ≡ refused_by kind (state self.now) action (fields q.now) }
-    {
-        if !has_right_count(kind, action, q) {
-            return Some(Refusal::Count);
-        }
-        if !is_in_range(kind.range(action), q.register, named_by(action, q)) {
-            return Some(Refusal::Register);
-        }
-        if self.may_do(action, q) {
-            None
-        } else {
-            Some(Refusal::Write)
-        }
-    }
-
-    fn refusal(&self, kind: Kind, action: Action, q: &Telegram) -> Option<Refusal>
-        ensures { result ≡ refusal kind (state self.now) action (fields q.now) }
-    {
-        match action {
-            Action::Echo => {
-                if q.subfunction == 0 {
-                    None
-                } else {
-                    Some(Refusal::Function)
-                }
-            }
-            _ => self.refused_by(kind, action, q),
+            Action::WriteOne | Action::WriteSeveral => self.may_write_all(registers),
         }
     }
 
     // Carries a question out that is not refused.
-    fn carry_out(&mut self, action: Action, q: &Telegram)
-        requires { q.now.register + length (payload action (fields q.now)) / 2 ≤ 65536 }
-        ensures { state self.new ≡ all_written (state self.old) q.now.register (payload action (fields q.now)) }
+    fn carry_out(&mut self, q: &Question)
+        ensures { state self.new ≡ all_written (state self.old) q.now.telegram.register (payload q.now.action (fields q.now.telegram)) }
     {
-        match action {
+        match q.action {
             Action::Echo | Action::ReadHolding | Action::ReadInput => {}
-            Action::WriteOne => self.write_all(q.register, &q.value.to_be_bytes()),
-            Action::WriteSeveral => self.write_all(q.register, q.data),
+            Action::WriteOne => self.write_register(q.telegram.register, q.telegram.value),
+            Action::WriteSeveral => self.write_all(q.telegram.register, q.telegram.data),
         }
     }
 
-    // The exception, into a buffer of 23 bytes at least.
-    fn put_exception(&self, command: u8, refusal: Refusal, buffer: &mut [u8]) -> usize
-        requires { 23 ≤ length buffer.old }
+    // The exception, into the front of a buffer. With 23 bytes of room it is never refused.
+    pub(crate) fn put_exception(
+        &self,
+        command: u8,
+        refusal: Refusal,
+        buffer: &mut [u8; 23],
+    ) -> usize
         ensures size { result ≡ length (exception (state self.now) command refusal) }
         ensures bytes { buffer.new ≡ exception (state self.now) command refusal ++ drop result buffer.old }
     {
-        match write_exception(
+        write_exception(
             self.address.value(),
             command,
             self.serial.to_bytes(),
-            refusal.code(),
+            u8::from(refusal),
             buffer,
-        ) {
-            Ok(n) => n,
-            Err(_) => 0,
-        }
+        )
+        .unwrap_or(0)
     }
-}
 
-impl Device {
     // The answer to a question with its data, from the address in force now.
-    fn answer_to<'a>(&self, q: &Telegram, told: &'a [u8]) -> Telegram<'a>
+    fn answer_to<'a>(&self, q: &Question, told: &'a [u8]) -> Telegram<'a>
         requires { length told.now ≤ 19 }
-        ensures { fields result ≡ answer_to (state self.now) (fields q.now) told.now }
+        ensures { fields result ≡ answer_to (state self.now) (fields q.now.telegram) told.now }
     {
         Telegram {
             address: self.address.value(),
-            command: q.command,
+            command: q.telegram.command,
             serial: self.serial.to_bytes(),
-            subfunction: q.subfunction,
-            register: q.register,
-            value: q.value,
+            subfunction: q.telegram.subfunction,
+            register: q.telegram.register,
+            value: q.telegram.value,
             size: told.len() as u8,
             code: 0,
             data: told,
         }
     }
 
-    // An answer with its data, into a buffer of 23 bytes at least.
-    fn put_answer(&self, q: &Telegram, told: &[u8], buffer: &mut [u8]) -> usize
-        requires { (23 ≤ length buffer.old) × (Answerable (state self.now) (fields q.now) told.now) }
-        ensures size { result ≡ length (answer (answer_to (state self.now) (fields q.now) told.now)) }
-        ensures bytes { buffer.new ≡ answer (answer_to (state self.now) (fields q.now) told.now) ++ drop result buffer.old }
+    // An answer with its data, into the front of a buffer. One that fits is never refused there.
+    // That it fits a telegram hangs on the station and the question together, so no struct of one of them holds it.
+    fn put_answer(&self, q: &Question, told: &[u8], buffer: &mut [u8; 23]) -> usize
+        requires { Answerable (state self.now) (fields q.now.telegram) told.now }
+        ensures size { result ≡ length (answer (answer_to (state self.now) (fields q.now.telegram) told.now)) }
+        ensures bytes { buffer.new ≡ answer (answer_to (state self.now) (fields q.now.telegram) told.now) ++ drop result buffer.old }
     {
-        let answer = self.answer_to(q, told);
-        match write_answer(&answer, buffer) {
-            Ok(n) => n,
-            Err(_) => 0,
+        write_answer(&self.answer_to(q, told), buffer).unwrap_or(0)
+    }
+}
+
+impl<K: FixedKind> StationOf<K> {
+    // Why a question about registers is not carried out: first the count, then the registers, then the right.
+    fn refused_by(&self, q: &Question) -> Result<(), Refusal>
+        requires { q.now.action ≢ Echo }
+        ensures { result ≡ done_unless (refused_by K.KIND (state self.now.device) q.now.action (fields q.now.telegram)) }
+    {
+        if !q.has_right_count(K::KIND) {
+            return Err(Refusal::Count);
+        }
+        let named = q.named().ok_or(Refusal::Register)?;
+        let range = K::KIND.range(q.action).ok_or(Refusal::Register)?;
+        if !range.contains_all(named) {
+            return Err(Refusal::Register);
+        }
+        if self.device.may_do(q, named) {
+            Ok(())
+        } else {
+            Err(Refusal::Write)
+        }
+    }
+
+    fn refusal(&self, q: &Question) -> Result<(), Refusal>
+        ensures { result ≡ done_unless (refusal K.KIND (state self.now.device) q.now.action (fields q.now.telegram)) }
+    {
+        match q.action {
+            Action::Echo => {
+                if q.telegram.subfunction == 0 {
+                    Ok(())
+                } else {
+                    Err(Refusal::Function)
+                }
+            }
+            _ => self.refused_by(q),
         }
     }
 
     // The answer to a read.
-    fn put_read(&self, kind: Kind, action: Action, q: &Telegram, buffer: &mut [u8]) -> usize
-        requires { (23 ≤ length buffer.old) × ((q.now.value ≤ 9) × ((q.now.register + q.now.value ≤ 65536) × (Answerable (state self.now) (fields q.now) (read_out (register_at kind (state self.now) action) q.now.register q.now.value)))) }
-        ensures size { result ≡ length (answer (answer_to (state self.now) (fields q.now) (read_out (register_at kind (state self.now) action) q.now.register q.now.value))) }
-        ensures bytes { buffer.new ≡ answer (answer_to (state self.now) (fields q.now) (read_out (register_at kind (state self.now) action) q.now.register q.now.value)) ++ drop result buffer.old }
+    fn put_read(&self, q: &Question, buffer: &mut [u8; 23]) -> usize
+        requires { (q.now.telegram.value ≤ 9) × ((q.now.telegram.register + q.now.telegram.value ≤ 65536) × (Answerable (state self.now.device) (fields q.now.telegram) (read_out (register_at K.KIND (state self.now.device) q.now.action) q.now.telegram.register q.now.telegram.value))) }
+        ensures size { result ≡ length (answer (answer_to (state self.now.device) (fields q.now.telegram) (read_out (register_at K.KIND (state self.now.device) q.now.action) q.now.telegram.register q.now.telegram.value))) }
+        ensures bytes { buffer.new ≡ answer (answer_to (state self.now.device) (fields q.now.telegram) (read_out (register_at K.KIND (state self.now.device) q.now.action) q.now.telegram.register q.now.telegram.value)) ++ drop result buffer.old }
     {
-        let mut data = [0; 18];
-        let n = 2 * q.value as usize;
-        self.read_out(kind, action, q.register, q.value, &mut data);
-        self.put_answer(q, &data[0..n], buffer)
+        let words = self.read_out(q.action, q.telegram.register);
+        let bytes = words.as_flattened();
+        self.device
+            .put_answer(q, &bytes[..2 * usize::from(q.telegram.value)], buffer)
     }
 
     // The answer to a question that was carried out.
-    fn put_done(&self, kind: Kind, action: Action, q: &Telegram, buffer: &mut [u8]) -> usize
-        requires { (23 ≤ length buffer.old) × ((Granted kind action (fields q.now)) × (Answerable (state self.now) (fields q.now) (told kind (state self.now) action (fields q.now)))) }
-        ensures size { result ≡ length (answer (answer_to (state self.now) (fields q.now) (told kind (state self.now) action (fields q.now)))) }
-        ensures bytes { buffer.new ≡ answer (answer_to (state self.now) (fields q.now) (told kind (state self.now) action (fields q.now))) ++ drop result buffer.old }
+    fn put_done(&self, q: &Question, buffer: &mut [u8; 23]) -> usize
+        requires { (Granted K.KIND q.now.action (fields q.now.telegram)) × (Answerable (state self.now.device) (fields q.now.telegram) (told K.KIND (state self.now.device) q.now.action (fields q.now.telegram))) }
+        ensures size { result ≡ length (answer (answer_to (state self.now.device) (fields q.now.telegram) (told K.KIND (state self.now.device) q.now.action (fields q.now.telegram)))) }
+        ensures bytes { buffer.new ≡ answer (answer_to (state self.now.device) (fields q.now.telegram) (told K.KIND (state self.now.device) q.now.action (fields q.now.telegram))) ++ drop result buffer.old }
     {
-        match action {
-            Action::Echo => self.put_answer(q, q.data, buffer),
-            Action::ReadHolding => self.put_read(kind, Action::ReadHolding, q, buffer),
-            Action::ReadInput => self.put_read(kind, Action::ReadInput, q, buffer),
-            Action::WriteOne | Action::WriteSeveral => self.put_answer(q, &[], buffer),
+        match q.action {
+            Action::Echo => self.device.put_answer(q, q.telegram.data, buffer),
+            Action::ReadHolding | Action::ReadInput => self.put_read(q, buffer),
+            Action::WriteOne | Action::WriteSeveral => self.device.put_answer(q, &[], buffer),
         }
     }
 
-    // Carries a question out or refuses it, as was found, and answers it unless it is a plain one to address 0.
-    fn act_on(
-        &mut self,
-        kind: Kind,
-        q: &Telegram,
-        refused: Option<Refusal>,
-        buffer: &mut [u8],
-    ) -> Option<usize>
-        requires { (23 ≤ length buffer.old) × ((IsQuestion (fields q.now)) × (refused ≡ refusal kind (state self.old) (action q.now.command) (fields q.now))) }
-        ensures size { result ≡ option_map length (reply kind (state self.old) (fields q.now)) }
-        ensures bytes { buffer.new ≡ laid (reply kind (state self.old) (fields q.now)) buffer.old }
-        ensures after { state self.new ≡ carried kind (state self.old) (fields q.now) }
+    // Does what a question asks, or refuses it, and answers it unless it is a plain one to address 0. Whether it may is
+    // found first, by the rights held before it.
+    pub(crate) fn obey(&mut self, q: &Question, buffer: &mut [u8; 23]) -> Option<usize>
+        requires { IsQuestion (fields q.now.telegram) }
+        ensures size { result ≡ option_map length (reply K.KIND (state self.old.device) (fields q.now.telegram)) }
+        ensures bytes { buffer.new ≡ laid (reply K.KIND (state self.old.device) (fields q.now.telegram)) buffer.old }
+        ensures after { state self.new.device ≡ carried K.KIND (state self.old.device) (fields q.now.telegram) }
     {
-        let action = Action::of(q.command);
-        let silent = q.address == 0 && !is_by_serial(q.command);
-        match refused {
-            Some(refusal) => {
+        let silent = q.is_unanswered();
+        match self.refusal(q) {
+            Err(refusal) => {
                 if silent {
                     return None;
                 }
-                Some(self.put_exception(q.command, refusal, buffer))
+                Some(
+                    self.device
+                        .put_exception(q.telegram.command, refusal, buffer),
+                )
             }
-            None => {
-                self.carry_out(action, q);
+            Ok(()) => {
+                self.device.carry_out(q);
                 if silent {
                     return None;
                 }
-                Some(self.put_done(kind, action, q, buffer))
+                Some(self.put_done(q, buffer))
             }
-        }
-    }
-
-    // Does what a question asks. Whether it may is found first, by the rights held before it.
-    fn obey(&mut self, kind: Kind, q: &Telegram, buffer: &mut [u8]) -> Option<usize>
-        requires { (23 ≤ length buffer.old) × (IsQuestion (fields q.now)) }
-        ensures size { result ≡ option_map length (reply kind (state self.old) (fields q.now)) }
-        ensures bytes { buffer.new ≡ laid (reply kind (state self.old) (fields q.now)) buffer.old }
-        ensures after { state self.new ≡ carried kind (state self.old) (fields q.now) }
-    {
-        let refused = self.refusal(kind, Action::of(q.command), q);
-        self.act_on(kind, q, refused, buffer)
-    }
-
-    // Puts a telegram to a station of a kind.
-    pub fn tell(
-        &mut self,
-        kind: Kind,
-        telegram: &[u8],
-        buffer: &mut [u8],
-    ) -> Result<Option<usize>, ShortBuffer>
-        ensures value { result ≡ told_result (says kind (state self.old) telegram.now) buffer.old }
-        ensures bytes { buffer.new ≡ told_buffer (says kind (state self.old) telegram.now) buffer.old }
-        ensures after { state self.new ≡ told_state buffer.old (state self.old) (becomes kind (state self.old) telegram.now) }
-    {
-        if buffer.len() < 23 {
-            return Err(ShortBuffer);
-        }
-        match self.call(kind, telegram) {
-            Call::Nothing => Ok(None),
-            Call::Unknown(command) => Ok(Some(self.put_exception(
-                command,
-                Refusal::Function,
-                buffer,
-            ))),
-            Call::Asked(q) => Ok(self.obey(kind, &q, buffer)),
         }
     }
 }

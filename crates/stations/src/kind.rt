@@ -1,14 +1,95 @@
 // What tells the kinds of station apart.
-ghost use Rattle.std.specs.Prelude.{◌≡◌};
-ghost use Rattle.stations.specs.Kinds.{knows, longest, most_read, speaks, range_of, action, code_of};
+ghost use Rattle.std.specs.Prelude.{◌≡◌, true, false, MatchOption};
+ghost use Rattle.telegram.specs.Commands.{byte_of};
+ghost use Rattle.stations.specs.declared.kind.Kind.{Kind};
+ghost use Rattle.stations.specs.Kinds.{knows, longest, most_read, speaks, range_of};
 
-use telegram::is_by_serial;
+use crate::range::Registers;
+use std::fmt;
+use std::str::FromStr;
+use telegram::Command;
 
-#[derive(Clone, Copy)]
+#[derive(Clone, Copy, PartialEq, Eq, Debug)]
 pub enum Kind {
     Fan,
     OlderFan,
     Controller,
+}
+
+impl fmt::Display for Kind {
+    ghost use Rattle.std.specs.Prelude.{Some};
+    ghost use Rattle.stations.specs.Names.{word_of};
+
+    ghost output = { λ kind. Some (word_of kind) };
+
+    fn fmt<W: fmt::Write>(&self, f: &mut fmt::Formatter<W>) -> fmt::Result {
+        match self {
+            Kind::Fan => f.write_str("fan"),
+            Kind::OlderFan => f.write_str("older"),
+            Kind::Controller => f.write_str("controller"),
+        }
+    }
+}
+
+// A kind that a type stands for: a const parameter of a struct can be a number, and no enum.
+pub trait FixedKind {
+    ghost KIND: { Kind };
+
+    const KIND: Kind;
+}
+
+#[derive(Clone, Copy)]
+pub struct FanKind;
+
+#[derive(Clone, Copy)]
+pub struct OlderFanKind;
+
+#[derive(Clone, Copy)]
+pub struct ControllerKind;
+
+impl FixedKind for FanKind {
+    ghost use Rattle.stations.specs.declared.kind.Kind.TheVariants.{Fan};
+
+    ghost KIND = { Fan };
+
+    const KIND: Kind = Kind::Fan;
+}
+
+impl FixedKind for OlderFanKind {
+    ghost use Rattle.stations.specs.declared.kind.Kind.TheVariants.{OlderFan};
+
+    ghost KIND = { OlderFan };
+
+    const KIND: Kind = Kind::OlderFan;
+}
+
+impl FixedKind for ControllerKind {
+    ghost use Rattle.stations.specs.declared.kind.Kind.TheVariants.{Controller};
+
+    ghost KIND = { Controller };
+
+    const KIND: Kind = Kind::Controller;
+}
+
+// A word that names no kind of station.
+#[derive(Clone, Copy, PartialEq, Eq, Debug)]
+pub struct UnknownKind;
+
+impl FromStr for Kind {
+    ghost use Rattle.stations.specs.Names.{Names};
+
+    type Err = UnknownKind;
+
+    ghost from_str_gives = { Names };
+
+    fn from_str(word: &str) -> Result<Kind, UnknownKind> {
+        match word {
+            "fan" => Ok(Kind::Fan),
+            "older" => Ok(Kind::OlderFan),
+            "controller" => Ok(Kind::Controller),
+            _ => Err(UnknownKind),
+        }
+    }
 }
 
 // What a command asks for.
@@ -25,100 +106,121 @@ pub enum Action {
 #[derive(Clone, Copy)]
 pub enum Refusal {
     // command or subfunction not known
-    Function,
+    Function = 1,
     // a register outside the range
-    Register,
+    Register = 2,
     // a wrong count
-    Count,
+    Count = 3,
     // a write without right, or by a defective fan
-    Write,
+    Write = 4,
 }
 
-impl Refusal {
-    // The code of the exception.
-    pub fn code(self) -> u8
-        ensures { result ≡ code_of self }
-    {
-        match self {
-            Refusal::Function => 1,
-            Refusal::Register => 2,
-            Refusal::Count => 3,
-            Refusal::Write => 4,
-        }
+// The code of the exception.
+impl From<Refusal> for u8 {
+    ghost use Rattle.std.specs.Prelude.{◌≡◌};
+    ghost use Rattle.stations.specs.Kinds.{code_of};
+
+    ghost from_gives = { λ refusal code. code ≡ code_of refusal };
+
+    fn from(refusal: Refusal) -> u8 {
+        refusal as u8
     }
 }
 
-impl Action {
-    pub fn of(command: u8) -> Action
-        ensures { result ≡ action command }
-    {
+impl From<Command> for Action {
+    ghost use Rattle.std.specs.Prelude.{◌≡◌};
+    ghost use Rattle.telegram.specs.Commands.{byte_of};
+    ghost use Rattle.stations.specs.Kinds.{action};
+
+    ghost from_gives = { λ command r. r ≡ action (byte_of command) };
+
+    fn from(command: Command) -> Action {
         match command {
-            0x03 | 0x43 => Action::ReadHolding,
-            0x04 | 0x44 => Action::ReadInput,
-            0x06 | 0x46 => Action::WriteOne,
-            0x10 | 0x50 => Action::WriteSeveral,
-            _ => Action::Echo,
+            Command::ReadHolding | Command::ReadHoldingBySerial => Action::ReadHolding,
+            Command::ReadInput | Command::ReadInputBySerial => Action::ReadInput,
+            Command::WriteOne | Command::WriteOneBySerial => Action::WriteOne,
+            Command::WriteSeveral | Command::WriteSeveralBySerial => Action::WriteSeveral,
+            Command::Diagnostics => Action::Echo,
         }
     }
 }
 
 impl Kind {
     // Whether a socket of this kind speaks serials.
-    pub fn speaks(self) -> bool
+    pub(crate) fn speaks(self) -> bool
         ensures { result ≡ speaks self }
     {
         match self {
             Kind::Fan => true,
-            Kind::OlderFan => false,
-            Kind::Controller => false,
+            Kind::OlderFan | Kind::Controller => false,
         }
     }
 
     // The longest telegram that it reads.
-    pub fn longest(self) -> usize
+    pub(crate) fn longest(self) -> usize
         ensures { result ≡ longest self }
     {
         match self {
             Kind::Fan => 23,
-            Kind::OlderFan => 17,
-            Kind::Controller => 17,
+            Kind::OlderFan | Kind::Controller => 17,
         }
     }
 
-    pub fn knows(self, command: u8) -> bool
-        ensures { result ≡ knows self command }
+    pub(crate) fn knows(self, command: Command) -> bool
+        ensures { result ≡ knows self (byte_of command) }
     {
-        match self {
-            Kind::Fan => matches!(
-                command,
-                0x03 | 0x04 | 0x06 | 0x08 | 0x10 | 0x43 | 0x44 | 0x46 | 0x50
-            ),
-            Kind::OlderFan => matches!(command, 0x03 | 0x04 | 0x06 | 0x08 | 0x10 | 0x46),
-            Kind::Controller => matches!(command, 0x03 | 0x04 | 0x06 | 0x10),
+        match command {
+            Command::ReadHolding | Command::ReadInput | Command::WriteOne | Command::WriteSeveral =>
+                true,
+            Command::Diagnostics | Command::WriteOneBySerial => self != Kind::Controller,
+            Command::ReadHoldingBySerial
+            | Command::ReadInputBySerial
+            | Command::WriteSeveralBySerial => self == Kind::Fan,
         }
+    }
+
+    // The command of a byte, if it is one that this kind knows.
+    pub(crate) fn known(self, byte: u8) -> Option<Command>
+        ensures { MatchOption result (knows self byte ≡ false) (λ c. (byte_of c ≡ byte) × (knows self byte ≡ true)) }
+    {
+        let Ok(command) = Command::try_from(byte) else {
+            return None;
+        };
+        self.knows(command).then_some(command)
     }
 
     // The most registers that one question may read.
-    pub fn most_read(self, command: u8) -> u16
-        ensures { result ≡ most_read self command }
+    pub(crate) fn most_read(self, command: Command) -> u16
+        ensures { result ≡ most_read self (byte_of command) }
     {
         match self {
-            Kind::Fan => { if is_by_serial(command) { 6 } else { 9 } }
-            Kind::OlderFan => 6,
-            Kind::Controller => 6,
+            Kind::Fan => { if command.is_by_serial() { 6 } else { 9 } }
+            Kind::OlderFan | Kind::Controller => 6,
         }
     }
 
-    // The first and the last register that there is for what is asked.
-    pub fn range(self, action: Action) -> Option<(u16, u16)>
+    // The registers that there are for what is asked.
+    pub(crate) fn range(self, action: Action) -> Option<Registers>
         ensures { result ≡ range_of self action }
     {
         match (self, action) {
-            (Kind::Fan, Action::ReadInput) => Some((0xD000, 0xD024)),
-            (Kind::OlderFan, Action::ReadInput) => Some((0xD000, 0xD01F)),
-            (Kind::Controller, Action::ReadInput) => Some((100, 131)),
+            (Kind::Fan, Action::ReadInput) => Some(Registers {
+                first: 0xD000,
+                last: 0xD024,
+            }),
+            (Kind::OlderFan, Action::ReadInput) => Some(Registers {
+                first: 0xD000,
+                last: 0xD01F,
+            }),
+            (Kind::Controller, Action::ReadInput) => Some(Registers {
+                first: 100,
+                last: 131,
+            }),
             (Kind::Controller, _) => None,
-            _ => Some((0xD000, 0xD37F)),
+            _ => Some(Registers {
+                first: 0xD000,
+                last: 0xD37F,
+            }),
         }
     }
 }

@@ -4,8 +4,11 @@
 mod calls;
 mod device;
 mod kind;
+mod question;
+mod range;
 mod registers;
 mod rights;
 mod stations;
 
-pub use stations::{Controller, Fan, OlderFan};
+pub use kind::{ControllerKind, FanKind, FixedKind, Kind, OlderFanKind, UnknownKind};
+pub use stations::{Controller, Fan, OlderFan, StationOf};

@@ -1,66 +1,85 @@
 // The three kinds of station.
-ghost use Rattle.std.specs.Prelude.{true, false};
-ghost use Rattle.stations.specs.declared.kind.Kind.TheVariants.{Fan as aFan, OlderFan as anOlderFan, Controller as aController};
-ghost use Rattle.stations.specs.Device.{State, fresh};
+ghost use Rattle.std.specs.Prelude.{◌≡◌, ◌+◌, ◌<◌, min, length};
+ghost use Rattle.std.specs.Option.{option_map};
+ghost use Rattle.telegram.specs.Layout.{word};
+ghost use Rattle.wall.specs.Tells.{laid};
+ghost use Rattle.stations.specs.Kinds.{speaks};
+ghost use Rattle.stations.specs.Device.{State, fresh, input_at, register_at, ReadsOut};
+ghost use Rattle.stations.specs.Parts.{state};
 ghost use Rattle.stations.specs.Calls.{card, says, becomes};
-ghost use Rattle.stations.specs.Shows.{fan_state, older_state, controller_state, fan_laws, older_laws, controller_laws};
+ghost use Rattle.stations.specs.Shows.{shown_state, shown_laws};
 
+use crate::calls::Call;
 use crate::device::Device;
-use crate::kind::Kind;
+use crate::kind::{Action, ControllerKind, FanKind, FixedKind, Kind, OlderFanKind, Refusal};
+use crate::registers::SET_VALUE;
 use serial::Serial;
-use wall::{Address, Card, ShortBuffer, Station};
+use std::array;
+use std::marker::PhantomData;
+use wall::{Address, Admitted, Card, ShortBuffer, Station};
+
+// Input registers with a meaning of their own: of a fan, and of a controller.
+const VALUE: u16 = 0xD010;
+
+const MOTOR_STATUS: u16 = 0xD011;
+
+const OWN_ADDRESS: u16 = 111;
+
+// A station of a kind that its type names.
+#[derive(Clone, Copy)]
+pub struct StationOf<K> {
+    pub(crate) device: Device,
+    kind: PhantomData<K>,
+}
 
 // A V5.00 fan.
-#[derive(Clone, Copy)]
-pub struct Fan {
-    device: Device,
-}
+pub type Fan = StationOf<FanKind>;
 
 // A fan of an earlier version: it knows no questions by serial but a write under its own address.
-#[derive(Clone, Copy)]
-pub struct OlderFan {
-    device: Device,
-}
+pub type OlderFan = StationOf<OlderFanKind>;
 
 // A controller of the cold store, on the same wire.
-#[derive(Clone, Copy)]
-pub struct Controller {
-    device: Device,
-}
+pub type Controller = StationOf<ControllerKind>;
 
-impl Station for Fan {
+impl<K: FixedKind> Station for StationOf<K> {
     ghost State = { State };
 
-    ghost state = { fan_state };
+    ghost state = { shown_state };
 
-    ghost card = { card aFan };
+    ghost card = { card K.KIND };
 
-    ghost speaks = { true };
+    ghost speaks = { speaks K.KIND };
 
-    ghost says = { says aFan };
+    ghost says = { says K.KIND };
 
-    ghost becomes = { becomes aFan };
+    ghost becomes = { becomes K.KIND };
 
     ghost fresh = { fresh };
 
-    ghost laws = { fan_laws };
+    ghost laws = { shown_laws K.KIND };
 
-    fn new(serial: Serial, address: Address, defective: bool) -> Fan {
-        Fan {
-            device: Device::new(serial, address, defective),
+    fn new(admitted: Admitted) -> StationOf<K> {
+        StationOf {
+            device: Device::new(admitted),
+            kind: PhantomData,
         }
     }
 
     fn speaks_serials() -> bool {
-        Kind::Fan.speaks()
+        K::KIND.speaks()
     }
 
     fn serial(&self) -> Option<Serial> {
-        self.device.serial_of(Kind::Fan)
+        Self::speaks_serials().then_some(self.device.serial)
     }
 
     fn shown(&self) -> Card {
-        self.device.card_of(Kind::Fan)
+        Card {
+            serial: self.serial().map(|serial| serial.value()),
+            address: self.device.address.value(),
+            stored: self.device.stored,
+            defective: self.device.defective,
+        }
     }
 
     fn address(&self) -> Address {
@@ -76,110 +95,67 @@ impl Station for Fan {
     }
 
     fn tell(&mut self, telegram: &[u8], buffer: &mut [u8]) -> Result<Option<usize>, ShortBuffer> {
-        self.device.tell(Kind::Fan, telegram, buffer)
+        let room = buffer.first_chunk_mut::<23>().ok_or(ShortBuffer)?;
+        Ok(self.answer(telegram, room))
     }
 }
 
-impl Station for OlderFan {
-    ghost State = { State };
-
-    ghost state = { older_state };
-
-    ghost card = { card anOlderFan };
-
-    ghost speaks = { false };
-
-    ghost says = { says anOlderFan };
-
-    ghost becomes = { becomes anOlderFan };
-
-    ghost fresh = { fresh };
-
-    ghost laws = { older_laws };
-
-    fn new(serial: Serial, address: Address, defective: bool) -> OlderFan {
-        OlderFan {
-            device: Device::new(serial, address, defective),
+impl<K: FixedKind> StationOf<K> {
+    // How many bytes in front of the buffer it answers, or none where it is silent.
+    fn answer(&mut self, telegram: &[u8], room: &mut [u8; 23]) -> Option<usize>
+        ensures size { result ≡ option_map length (says K.KIND (state self.old.device) telegram.now) }
+        ensures bytes { room.new ≡ laid (says K.KIND (state self.old.device) telegram.now) room.old }
+        ensures after { state self.new.device ≡ becomes K.KIND (state self.old.device) telegram.now }
+    {
+        match self.call(telegram) {
+            Call::Nothing => None,
+            Call::Unknown(command) => {
+                Some(self.device.put_exception(command, Refusal::Function, room))
+            }
+            Call::Asked(q) => self.obey(&q, room),
         }
     }
 
-    fn speaks_serials() -> bool {
-        Kind::OlderFan.speaks()
-    }
-
-    fn serial(&self) -> Option<Serial> {
-        self.device.serial_of(Kind::OlderFan)
-    }
-
-    fn shown(&self) -> Card {
-        self.device.card_of(Kind::OlderFan)
-    }
-
-    fn address(&self) -> Address {
-        self.device.address
-    }
-
-    fn stored_address(&self) -> u8 {
-        self.device.stored
-    }
-
-    fn is_defective(&self) -> bool {
-        self.device.defective
-    }
-
-    fn tell(&mut self, telegram: &[u8], buffer: &mut [u8]) -> Result<Option<usize>, ShortBuffer> {
-        self.device.tell(Kind::OlderFan, telegram, buffer)
-    }
-}
-
-impl Station for Controller {
-    ghost State = { State };
-
-    ghost state = { controller_state };
-
-    ghost card = { card aController };
-
-    ghost speaks = { false };
-
-    ghost says = { says aController };
-
-    ghost becomes = { becomes aController };
-
-    ghost fresh = { fresh };
-
-    ghost laws = { controller_laws };
-
-    fn new(serial: Serial, address: Address, defective: bool) -> Controller {
-        Controller {
-            device: Device::new(serial, address, defective),
+    fn input(&self, register: u16) -> u16
+        ensures { result ≡ input_at K.KIND (state self.now.device) register }
+    {
+        match (K::KIND, register) {
+            (Kind::Controller, OWN_ADDRESS) => u16::from(self.device.address.value()),
+            (Kind::Controller, _) => 0,
+            (_, VALUE) => self.device.paged(SET_VALUE).min(0xFF00),
+            (_, MOTOR_STATUS) => { if self.device.defective { 0x18 } else { 0 } }
+            _ => 0,
         }
     }
 
-    fn speaks_serials() -> bool {
-        Kind::Controller.speaks()
+    // The register that an action reads.
+    fn register(&self, action: Action, register: u16) -> u16
+        ensures { result ≡ register_at K.KIND (state self.now.device) action register }
+    {
+        match action {
+            Action::ReadInput => self.input(register),
+            _ => self.device.holding(register),
+        }
     }
 
-    fn serial(&self) -> Option<Serial> {
-        self.device.serial_of(Kind::Controller)
+    // The bytes of the register that stands so many places after another, or of the last that there can be.
+    fn bytes_after(&self, action: Action, first: u16, place: usize) -> [u8; 2]
+        requires { place < 9 }
+        ensures { result ≡ word (register_at K.KIND (state self.now.device) action (min (first + place) 65535)) }
+    {
+        let register = first.saturating_add(place as u16);
+        self.register(action, register).to_be_bytes()
     }
 
-    fn shown(&self) -> Card {
-        self.device.card_of(Kind::Controller)
-    }
-
-    fn address(&self) -> Address {
-        self.device.address
-    }
-
-    fn stored_address(&self) -> u8 {
-        self.device.stored
-    }
-
-    fn is_defective(&self) -> bool {
-        self.device.defective
-    }
-
-    fn tell(&mut self, telegram: &[u8], buffer: &mut [u8]) -> Result<Option<usize>, ShortBuffer> {
-        self.device.tell(Kind::Controller, telegram, buffer)
+    // The bytes of nine registers from one on, of which an answer takes those that were asked for.
+    pub(crate) fn read_out(&self, action: Action, first: u16) -> [[u8; 2]; 9]
+        ensures { ReadsOut (register_at K.KIND (state self.now.device) action) first result }
+    {
+        array::from_fn(
+            |place: usize| -> [u8; 2]
+                requires { place < 9 }
+                ensures { result ≡ word (register_at K.KIND (state self.entry.now.device) action (min (first + place) 65535)) }
+            { self.bytes_after(action, first, place) },
+        )
     }
 }

@@ -1,5 +1,8 @@
 -- The laws of a line, from its rules and from what fit and pull do.
-use Rattle.std.proofs.Common.{◌≡◌, ℕ, zero, suc, Bool, List, [], ◌∷◌, map, set, Some, None, Option, sym, refl, ap, ◌∙◌}
+use Rattle.std.proofs.Common.{◌≡◌, ℕ, Bool, List, map, set, Some, None, Option, sym, ap, ◌∙◌, arith}
+use Rattle.std.proofs.Math.ListN.{get_or-map}
+use Rattle.std.proofs.lemmas.List.{map-set, set-get_or}
+use Rattle.std.proofs.lemmas.Simd.{map-map}
 use Rattle.wall.specs.declared.card.Card.{Card}
 use Rattle.wall.specs.declared.card.Socket.{Socket}
 use Rattle.wall.specs.Wall.{Wall, Reply, changed_in, changed, counted, GoodSockets}
@@ -12,21 +15,16 @@ abbrev blank : Option Socket → Option Socket
 blank = holding (λ speaks. None)
 
 changed_cell : (f : Card → Card) (o : Option Socket) → blank (changed_in f o) ≡ blank o
-changed_cell f None = refl
-changed_cell f (Some s) = refl
+changed_cell f o = grind arith
 
 changed_cells : (f : Card → Card) (ss : List (Option Socket)) → map blank (map (changed_in f) ss) ≡ map blank ss
-changed_cells f [] = refl
-changed_cells f (o ∷ ss) = λ i. changed_cell f o i ∷ changed_cells f ss i
+changed_cells f ss = map-map blank (changed_in f) ss ∙ ap (λ (g : Option Socket → Option Socket). map g ss) (λ i o. changed_cell f o i)
 
 refilled_cell : (station : Bool → Option Card) (o : Option Socket) → blank (holding station o) ≡ blank o
-refilled_cell station None = refl
-refilled_cell station (Some s) = refl
+refilled_cell station o = grind arith
 
 refilled_cells : (station : Bool → Option Card) (ss : List (Option Socket)) (n : ℕ) → map blank (set ss n (holding station (at ss n))) ≡ map blank ss
-refilled_cells station [] n = refl
-refilled_cells station (o ∷ ss) zero = ap (λ u. u ∷ map blank ss) (refilled_cell station o)
-refilled_cells station (o ∷ ss) (suc n) = ap (λ us. blank o ∷ us) (refilled_cells station ss n)
+refilled_cells station ss n = map-set blank ss n (holding station (at ss n)) ∙ ap (set (map blank ss) n) (refilled_cell station (at ss n) ∙ sym (get_or-map blank ss n None)) ∙ set-get_or (map blank ss) n None
 
 -- a telegram leaves the marks, since it changes no more than the addresses
 asked-marks : (w v : Wall) → changed bare v ≡ counted (changed bare w) → marks v ≡ marks w

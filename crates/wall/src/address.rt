@@ -12,7 +12,7 @@ impl Address {
     pub fn new(value: u8) -> Option<Address>
         ensures { MatchOption result (is_address value ≡ false) (λ a. a.value ≡ value) }
     {
-        if 1 <= value && value <= 247 {
+        if matches!(value, 1..=247) {
             Some(Address { value })
         } else {
             None

@@ -1,6 +1,7 @@
 // What a wall shows of its sockets and stations.
-ghost use Rattle.std.specs.Prelude.{◌≡◌};
 ghost use Rattle.wall.specs.Numbers.{short_number};
+
+use telegram::Fault;
 
 // A station as the wall shows it: its serial, if it has one, the address in force, the stored address, and whether it is
 // defective (a station that is not is sound).
@@ -24,10 +25,10 @@ pub struct Socket {
 #[derive(Clone, Copy, PartialEq, Eq, Debug)]
 pub struct ShortBuffer;
 
-impl ShortBuffer {
-    pub fn number(self) -> u8
-        ensures { result ≡ short_number }
-    {
+impl Fault for ShortBuffer {
+    ghost number_of = { λ _. short_number };
+
+    fn number(self) -> u8 {
         15
     }
 }

@@ -1,47 +1,40 @@
 // Why a line refuses to fit or to pull a station.
-ghost use Rattle.std.specs.Prelude.{◌≡◌};
 ghost use Rattle.wall.specs.Numbers.{fit_number, pull_number};
+
+use telegram::Fault;
 
 #[derive(Clone, Copy, PartialEq, Eq, Debug)]
 pub enum FitFault {
     // there is no such socket
-    NoSocket,
+    NoSocket = 10,
     // the socket is not empty
-    Taken,
+    Taken = 11,
     // a byte of the serial is zero
-    NoSerial,
+    NoSerial = 12,
     // the address is not 1 to 247
-    NoAddress,
+    NoAddress = 13,
 }
 
-impl FitFault {
-    pub fn number(self) -> u8
-        ensures { result ≡ fit_number self }
-    {
-        match self {
-            FitFault::NoSocket => 10,
-            FitFault::Taken => 11,
-            FitFault::NoSerial => 12,
-            FitFault::NoAddress => 13,
-        }
+impl Fault for FitFault {
+    ghost number_of = { fit_number };
+
+    fn number(self) -> u8 {
+        self as u8
     }
 }
 
 #[derive(Clone, Copy, PartialEq, Eq, Debug)]
 pub enum PullFault {
     // there is no such socket
-    NoSocket,
+    NoSocket = 10,
     // the socket is not taken
-    Empty,
+    Empty = 14,
 }
 
-impl PullFault {
-    pub fn number(self) -> u8
-        ensures { result ≡ pull_number self }
-    {
-        match self {
-            PullFault::NoSocket => 10,
-            PullFault::Empty => 14,
-        }
+impl Fault for PullFault {
+    ghost number_of = { pull_number };
+
+    fn number(self) -> u8 {
+        self as u8
     }
 }

@@ -14,7 +14,7 @@ pub use address::Address;
 pub use card::{Card, ShortBuffer, Socket};
 pub use faults::{FitFault, PullFault};
 pub use line::Line;
-pub use newcomer::check_newcomer;
+pub use newcomer::{Admitted, Newcomer};
 pub use outcome::Outcome;
 pub use station::Station;
 pub use tally::Tally;

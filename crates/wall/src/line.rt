@@ -8,6 +8,7 @@ ghost use Rattle.wall.specs.LineLaws.{LineLaws};
 
 use crate::card::{ShortBuffer, Socket};
 use crate::faults::{FitFault, PullFault};
+use crate::newcomer::Newcomer;
 use crate::outcome::Outcome;
 
 // The ghost members are the line as a small machine: its states, the wall that each state shows, the reply to a list of
@@ -31,15 +32,9 @@ pub trait Line: Sized {
     ghost laws: { LineLaws state wall reply next fits pulls };
 
     // Puts a new station into an empty socket, with both addresses so. It has the serial if its socket speaks serials.
-    fn fit(
-        &mut self,
-        socket: u32,
-        serial: [u8; 6],
-        address: u8,
-        defective: bool,
-    ) -> Result<(), FitFault>
-        ensures value { result ≡ done_unless (fit_fault (wall (state self.old)) socket serial address) }
-        ensures after { state self.new ≡ after_unless (fit_fault (wall (state self.old)) socket serial address) (state self.old) (fits (state self.old) socket (number serial) address defective) };
+    fn fit(&mut self, socket: u32, newcomer: Newcomer) -> Result<(), FitFault>
+        ensures value { result ≡ done_unless (fit_fault (wall (state self.old)) socket newcomer.serial newcomer.address) }
+        ensures after { state self.new ≡ after_unless (fit_fault (wall (state self.old)) socket newcomer.serial newcomer.address) (state self.old) (fits (state self.old) socket (number newcomer.serial) newcomer.address newcomer.defective) };
 
     // Empties a socket that is taken.
     fn pull(&mut self, socket: u32) -> Result<(), PullFault>

@@ -2,7 +2,7 @@
 ghost use Rattle.std.specs.Prelude.{◌≡◌};
 ghost use Rattle.wall.specs.Lines.{is_silence};
 
-// An answer tells its length; its bytes stand in the buffer. A clash is the broken telegram of two stations or more that
+// An answer tells its length; its bytes stand in the buffer, whose memory the caller lends. A clash is the broken telegram of two stations or more that
 // answer at once, and not silence.
 #[derive(Clone, Copy, PartialEq, Eq, Debug)]
 pub enum Outcome {

@@ -7,6 +7,7 @@ ghost use Rattle.wall.specs.Laws.{StationLaws};
 
 use crate::address::Address;
 use crate::card::{Card, ShortBuffer};
+use crate::newcomer::Admitted;
 use serial::Serial;
 
 // The ghost members are the station as a small machine: its states, what each state shows, what it answers to a list of
@@ -29,8 +30,8 @@ pub trait Station: Sized {
 
     ghost laws: { StationLaws state speaks card says becomes fresh };
 
-    fn new(serial: Serial, address: Address, defective: bool) -> Self
-        ensures { state result ≡ fresh serial.value address.value defective };
+    fn new(admitted: Admitted) -> Self
+        ensures { state result ≡ fresh admitted.serial.value admitted.address.value admitted.defective };
 
     // Whether a socket of this kind of station speaks serials.
     fn speaks_serials() -> bool
@@ -54,8 +55,8 @@ pub trait Station: Sized {
     fn is_defective(&self) -> bool
         ensures { result ≡ (card (state self.now)).defective };
 
-    // Puts a telegram to the station. It writes its answer into the front of the buffer and says its length, or is silent
-    // and leaves the buffer as it was. A buffer of under 23 bytes is refused, and nothing happens.
+    // Puts a telegram to the station. It writes its answer into the front of the buffer, whose memory the caller lends, and
+    // says its length, or is silent and leaves the buffer as it was. A buffer of under 23 bytes is refused, and nothing happens.
     fn tell(&mut self, telegram: &[u8], buffer: &mut [u8]) -> Result<Option<usize>, ShortBuffer>
         ensures value { result ≡ told_result (says (state self.old) telegram.now) buffer.old }
         ensures bytes { buffer.new ≡ told_buffer (says (state self.old) telegram.now) buffer.old }

@@ -1,6 +1,5 @@
-use Rattle.std.proofs.Common.{◌≡◌, None}
-use Rattle.lines.proofs.Passes.{passed}
+use Rattle.std.proofs.Common.{◌≡◌, take, replicate, None}
 use Rattle.lines.proofs.sockets.empty_sockets.Given as goal
 
-abbrev pub invariant-loop-i : goal.invariant-loop-i
-invariant-loop-i g l = l.sockets ≡ passed (λ _. None) l.i l.initial.sockets
+abbrev pub invariant-loop-socket : goal.invariant-loop-socket
+invariant-loop-socket g l = take l.socket-index l.sockets ≡ replicate l.socket-index None

@@ -1,9 +1,8 @@
-use Rattle.std.proofs.Common.{List, set, None, Option, sym, refl, ap}
-use Rattle.wall.specs.declared.faults.PullFault.{PullFault}
+use Rattle.std.proofs.Common.{◌-◌, List, take, Option, refl}
 use Rattle.wall.specs.Lines.{at, pull_fault_at}
-use Rattle.lines.specs.Bank.{states, sockets_of}
-use Rattle.lines.proofs.Cuts.{lent-front, back-front, back-rest, cut-after}
-use Rattle.lines.proofs.Refusals.{whole-value}
+use Rattle.lines.specs.Bank.{BankState, sockets_of}
+use Rattle.lines.proofs.Cuts.{lent, front_back, rest_back}
+use Rattle.lines.proofs.Refusals.{whole_after}
 use Rattle.lines.proofs.bank.BankLine.pull.Goals as goal
 
 pub returns : goal.returns
@@ -11,14 +10,12 @@ returns g c =
     let m = g.S.Station in
     let row = c.args.self.now.sockets.now in
     let n = c.in_use-n.result in
-    let last = c.pull_socket.new.sockets in
     let is = c.in_use-n.ensures in
+    let last = c.pull_socket.new.sockets in
     let long = c.pull_socket.auto.sockets in
-    let lent = lent-front 64 n row last is in
-    let fault : List (Option g.row.S.Denot) → Option PullFault = λ r. pull_fault_at (at (sockets_of m r) c.args.socket) in
+    let whole : List (Option m.State) → BankState m.State = λ ss. record { sockets = ss; tally = c.args.self.now.tally.value } in
     record {
-      value = whole-value (ap fault (sym lent)) c.pull_socket.ensures.value;
-      after = cut-after (λ (ss : List (Option m.State)). record { sockets = ss; tally = c.args.self.now.tally.value }) (states m) (λ r. set (states m r) c.args.socket None) lent (back-front 64 n row last is long) (ap fault (sym lent)) c.pull_socket.ensures.after;
-      rest = back-rest 64 n row last is long;
-      lender = refl;
+      value = rw (← lent 64 n row is) c.pull_socket.ensures.value;
+      after = rw (front_back 64 n row is last long, ← lent 64 n row is) (whole_after whole (pull_fault_at (at (sockets_of m (take (n - 0) row)) c.args.socket)) _ _ c.pull_socket.ensures.after);
+      loan = record { rest = rest_back 64 n row is last long; lender = refl };
     }

@@ -1,38 +1,39 @@
-use Rattle.std.proofs.Common.{◌/◌, cond, sym, ap}
+use Rattle.std.proofs.Common.{◌/◌}
 use Rattle.serial.specs.Six.{number}
-use Rattle.wall.specs.Lines.{fit_fault_at}
-use Rattle.lines.specs.Joint.{with_left, with_right}
+use Rattle.wall.specs.Lines.{fit_fault}
+use Rattle.lines.specs.Joint.{even, with_left, with_right}
 use Rattle.lines.specs.Joints.{joint_state}
 use Rattle.lines.specs.LawsOfJoints.{at_left, at_right}
-use Rattle.lines.proofs.Refusals.{whole-value, whole-after}
+use Rattle.lines.proofs.Refusals.{whole_after}
+use Rattle.lines.proofs.Sides.{is_left, is_right}
 use Rattle.lines.proofs.joint.JointLine.fit.Goals as goal
 
-pub returns-then-is_left : goal.returns-then-is_left
-returns-then-is_left g c =
+pub returns-in-Left : goal.returns-in-Left
+returns-in-Left g c =
     let p = g.P.Line in
     let q = g.Q.Line in
     let j = joint_state p q c.args.self.now in
     let n = c.args.socket in
-    let h = sym c.if-is_left.ensures in
-    let same = ap (λ o. fit_fault_at o c.args.serial c.args.address) (at_left (p.wall j.left).sockets (q.wall j.right).sockets n h) in
-    let l = with_left j (p.fits j.left (n / 2) (number c.args.serial) c.args.address c.args.defective) in
-    let r = with_right j (q.fits j.right (n / 2) (number c.args.serial) c.args.address c.args.defective) in
+    let who = c.args.newcomer in
+    let k = c.in-Left.n in
+    let s = is_left (even n) k (n / 2) c.in-Left.ensures in
+    let at = at_left (p.wall j.left).sockets (q.wall j.right).sockets n s.0 in
     record {
-      value = whole-value same c.fit.ensures.value;
-      after = whole-after (with_left j) _ _ _ same c.fit.ensures.after (ap (λ b. cond b l r) (sym h));
+      value = rw (at, ← s.1) c.fit.ensures.value;
+      after = rw (at, s.0, ← s.1) (whole_after (with_left j) (fit_fault (p.wall j.left) k who.serial who.address) j.left (p.fits j.left k (number who.serial) who.address who.defective) c.fit.ensures.after);
     }
 
-pub returns-else-is_left : goal.returns-else-is_left
-returns-else-is_left g c =
+pub returns-in-Right : goal.returns-in-Right
+returns-in-Right g c =
     let p = g.P.Line in
     let q = g.Q.Line in
     let j = joint_state p q c.args.self.now in
     let n = c.args.socket in
-    let h = sym c.if-is_left.ensures in
-    let same = ap (λ o. fit_fault_at o c.args.serial c.args.address) (at_right (p.wall j.left).sockets (q.wall j.right).sockets n h) in
-    let l = with_left j (p.fits j.left (n / 2) (number c.args.serial) c.args.address c.args.defective) in
-    let r = with_right j (q.fits j.right (n / 2) (number c.args.serial) c.args.address c.args.defective) in
+    let who = c.args.newcomer in
+    let k = c.in-Right.n in
+    let s = is_right (even n) k (n / 2) c.in-Right.ensures in
+    let at = at_right (p.wall j.left).sockets (q.wall j.right).sockets n s.0 in
     record {
-      value = whole-value same c.fit-else-is_left.ensures.value;
-      after = whole-after (with_right j) _ _ _ same c.fit-else-is_left.ensures.after (ap (λ b. cond b l r) (sym h));
+      value = rw (at, ← s.1) c.fit-in-Right.ensures.value;
+      after = rw (at, s.0, ← s.1) (whole_after (with_right j) (fit_fault (q.wall j.right) k who.serial who.address) j.right (q.fits j.right k (number who.serial) who.address who.defective) c.fit-in-Right.ensures.after);
     }

@@ -1,33 +1,34 @@
-use Rattle.std.proofs.Common.{◌/◌, cond, sym, ap}
-use Rattle.wall.specs.Lines.{pull_fault_at}
-use Rattle.lines.specs.Joint.{with_left, with_right}
+use Rattle.std.proofs.Common.{◌/◌}
+use Rattle.wall.specs.Lines.{pull_fault}
+use Rattle.lines.specs.Joint.{even, with_left, with_right}
 use Rattle.lines.specs.Joints.{joint_state}
 use Rattle.lines.specs.LawsOfJoints.{at_left, at_right}
-use Rattle.lines.proofs.Refusals.{whole-value, whole-after}
+use Rattle.lines.proofs.Refusals.{whole_after}
+use Rattle.lines.proofs.Sides.{is_left, is_right}
 use Rattle.lines.proofs.joint.JointLine.pull.Goals as goal
 
-pub returns-then-is_left : goal.returns-then-is_left
-returns-then-is_left g c =
+pub returns-in-Left : goal.returns-in-Left
+returns-in-Left g c =
     let p = g.P.Line in
     let q = g.Q.Line in
     let j = joint_state p q c.args.self.now in
     let n = c.args.socket in
-    let h = sym c.if-is_left.ensures in
-    let same = ap pull_fault_at (at_left (p.wall j.left).sockets (q.wall j.right).sockets n h) in
+    let s = is_left (even n) c.in-Left.n (n / 2) c.in-Left.ensures in
+    let at = at_left (p.wall j.left).sockets (q.wall j.right).sockets n s.0 in
     record {
-      value = whole-value same c.pull.ensures.value;
-      after = whole-after (with_left j) _ _ _ same c.pull.ensures.after (ap (λ b. cond b (with_left j (p.pulls j.left (n / 2))) (with_right j (q.pulls j.right (n / 2)))) (sym h));
+      value = rw (at, ← s.1) c.pull.ensures.value;
+      after = rw (at, s.0, ← s.1) (whole_after (with_left j) (pull_fault (p.wall j.left) c.in-Left.n) _ _ c.pull.ensures.after);
     }
 
-pub returns-else-is_left : goal.returns-else-is_left
-returns-else-is_left g c =
+pub returns-in-Right : goal.returns-in-Right
+returns-in-Right g c =
     let p = g.P.Line in
     let q = g.Q.Line in
     let j = joint_state p q c.args.self.now in
     let n = c.args.socket in
-    let h = sym c.if-is_left.ensures in
-    let same = ap pull_fault_at (at_right (p.wall j.left).sockets (q.wall j.right).sockets n h) in
+    let s = is_right (even n) c.in-Right.n (n / 2) c.in-Right.ensures in
+    let at = at_right (p.wall j.left).sockets (q.wall j.right).sockets n s.0 in
     record {
-      value = whole-value same c.pull-else-is_left.ensures.value;
-      after = whole-after (with_right j) _ _ _ same c.pull-else-is_left.ensures.after (ap (λ b. cond b (with_left j (p.pulls j.left (n / 2))) (with_right j (q.pulls j.right (n / 2)))) (sym h));
+      value = rw (at, ← s.1) c.pull-in-Right.ensures.value;
+      after = rw (at, s.0, ← s.1) (whole_after (with_right j) (pull_fault (q.wall j.right) c.in-Right.n) _ _ c.pull-in-Right.ensures.after);
     }
