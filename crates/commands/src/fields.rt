@@ -1,5 +1,5 @@
 // The fields of a telegram as they are printed: words name=value.
-use crate::hex::{Joined, SixBytes};
+use crate::hex::Hex;
 use std::fmt;
 use telegram::Telegram;
 
@@ -19,9 +19,9 @@ impl fmt::Display for Printed<'_> {
             size,
             code,
             data,
-        } = self.0;
-        let serial = SixBytes(serial);
-        let data = Joined(data);
+        } = &self.0;
+        let serial = Hex::joined(serial);
+        let data = Hex::joined(data);
         write!(
             f,
             "address={address} command={command:02X} serial={serial} subfunction={subfunction:04X} "

@@ -3,16 +3,12 @@
 
 mod fields;
 mod hex;
-mod kind;
 mod line;
-mod newcomer;
 mod sockets;
 mod telegrams;
 
-pub use hex::{Spaced, front};
-pub use kind::Kind;
-pub use line::{ask, fit, pull, switch};
-pub use newcomer::Newcomer;
+pub use hex::{Hex, front};
+pub use line::{ask, fit, print_done, pull, switch};
 pub use sockets::{Plan, show};
 pub use telegrams::{
     read_answer, read_answer_to, read_question, sum, write_answer, write_question,

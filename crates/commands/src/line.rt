@@ -6,36 +6,33 @@ ghost use Rattle.wall.specs.Lines.{fit_fault, pull_fault, after_unless};
 ghost use Rattle.lines.specs.Feeders.{feeder_state};
 
 use crate::hex::front;
-use crate::newcomer::Newcomer;
 use lines::Feeder;
 use std::io;
-use wall::{Line, Outcome};
+use telegram::Fault;
+use wall::{Line, Newcomer, Outcome};
 
 pub fn fit<L: Line>(
     rt: &HostRuntime,
     line: &mut L,
     socket: u32,
-    newcomer: &Newcomer,
+    newcomer: Newcomer,
 ) -> io::Result<()>
-    ensures { L.Line.state line.new ≡ after_unless (fit_fault (L.Line.wall (L.Line.state line.old)) socket newcomer.now.serial newcomer.now.address) (L.Line.state line.old) (L.Line.fits (L.Line.state line.old) socket (number newcomer.now.serial) newcomer.now.address newcomer.now.defective) }
+    ensures { L.Line.state line.new ≡ after_unless (fit_fault (L.Line.wall (L.Line.state line.old)) socket newcomer.serial newcomer.address) (L.Line.state line.old) (L.Line.fits (L.Line.state line.old) socket (number newcomer.serial) newcomer.address newcomer.defective) }
 {
-    let Newcomer {
-        serial,
-        address,
-        defective,
-    } = *newcomer;
-    match line.fit(socket, serial, address, defective) {
-        Ok(()) => println!(rt; "fit done"),
-        Err(fault) => println!(rt; "fit refused {}", fault.number()),
-    }
+    print_done(rt, "fit", line.fit(socket, newcomer))
 }
 
 pub fn pull<L: Line>(rt: &HostRuntime, line: &mut L, socket: u32) -> io::Result<()>
     ensures { L.Line.state line.new ≡ after_unless (pull_fault (L.Line.wall (L.Line.state line.old)) socket) (L.Line.state line.old) (L.Line.pulls (L.Line.state line.old) socket) }
 {
-    match line.pull(socket) {
-        Ok(()) => println!(rt; "pull done"),
-        Err(fault) => println!(rt; "pull refused {}", fault.number()),
+    print_done(rt, "pull", line.pull(socket))
+}
+
+// A call that is done or refused has nothing else to tell.
+pub fn print_done<F: Fault>(rt: &HostRuntime, what: &str, done: Result<(), F>) -> io::Result<()> {
+    match done {
+        Ok(()) => println!(rt; "{what} done"),
+        Err(fault) => println!(rt; "{what} refused {}", fault.number()),
     }
 }
 
@@ -58,6 +55,7 @@ pub fn switch<L: Line>(rt: &HostRuntime, feeder: &mut Feeder<L>, on: bool) -> io
     println!(rt; "switch {}", on_or_off(on))
 }
 
+// The calls of the feeder take and tell a bool, and an enum of two words would be turned into one and back.
 pub fn on_or_off(on: bool) -> &'static str {
     if on { "on" } else { "off" }
 }

@@ -1,7 +1,7 @@
 // A wall shown socket by socket.
-use crate::kind::Kind;
 use crate::line::on_or_off;
 use lines::Feeder;
+use stations::Kind;
 use std::alloc::{AllocError, Global};
 use std::{fmt, io};
 use wall::{Card, Line};
@@ -36,23 +36,16 @@ pub fn show<L: Line>(rt: &HostRuntime, feeder: &Feeder<L>, plan: &Plan) -> io::R
 }
 
 fn taken_sockets<L: Line>(heap: Global, line: &L, plan: &Plan) -> Result<Vec<Taken>, AllocError> {
-    let mut taken = Vec::new(heap);
-    for socket in 0..plan.numbers {
-        if let Some(card) = card_at(line, socket) {
-            let kind = plan.kind_at(socket);
-            taken.push(Taken { socket, kind, card })?;
-        }
-    }
-    Ok(taken)
-}
-
-fn card_at<L: Line>(line: &L, socket: u32) -> Option<Card> {
-    line.socket(socket)?.station
+    (0..plan.numbers)
+        .filter_map(|socket| plan.taken_at(line, socket))
+        .collect(heap)
 }
 
 impl Plan {
-    fn kind_at(&self, socket: u32) -> Kind {
-        self.kinds[socket as usize % 4]
+    fn taken_at<L: Line>(&self, line: &L, socket: u32) -> Option<Taken> {
+        let card = line.socket(socket)?.station?;
+        let kind = self.kinds[socket as usize % 4];
+        Some(Taken { socket, kind, card })
     }
 }
 

@@ -1,12 +1,12 @@
 // The commands on telegrams, which need no station, with what they print.
 use crate::fields::Printed;
-use crate::hex::{Spaced, front};
+use crate::hex::{Hex, front};
 use std::io;
-use telegram::{AnswerFault, Telegram, TelegramFault};
+use telegram::{AnswerFault, Fault, Telegram, TelegramFault};
 
 pub fn sum(rt: &HostRuntime, bytes: &[u8]) -> io::Result<()> {
     let sum = checksum::checksum(bytes).to_le_bytes();
-    println!(rt; "checksum {}", Spaced(&sum))
+    println!(rt; "checksum {}", Hex::spaced(&sum))
 }
 
 pub fn read_question(rt: &HostRuntime, bytes: &[u8]) -> io::Result<()> {
@@ -17,6 +17,7 @@ pub fn read_answer(rt: &HostRuntime, bytes: &[u8]) -> io::Result<()> {
     print_read(rt, "answer", telegram::read_answer(bytes))
 }
 
+// What was read is a question or an answer. The word for it is said in two places, where an enum of both would be longer.
 fn print_read(
     rt: &HostRuntime,
     what: &str,
@@ -48,6 +49,7 @@ fn print_answer_fault(rt: &HostRuntime, fault: AnswerFault) -> io::Result<()> {
     }
 }
 
+// For a question and an answer, as in reading: with the writer as a parameter there would be no less to say.
 pub fn write_question(rt: &HostRuntime, telegram: &Telegram<'_>) -> io::Result<()> {
     let mut buffer = [0; 23];
     let written = telegram::write_question(telegram, &mut buffer);

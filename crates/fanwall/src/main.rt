@@ -1,9 +1,8 @@
 //! The program at the bench: it carries out a script, from the file that its only argument names or from standard input.
 #![tactic(auto)]
 
-use anyhow::anyhow;
-use script::run_script;
-use std::io::Read;
+use anyhow::{anyhow, bail, ensure};
+use script::{run_input, run_script};
 use std::process::ExitCode;
 use std::{env, fs};
 
@@ -45,39 +44,23 @@ A call that is turned down prints its number, as 'read question refused 2'. A li
 read prints 'line N: not read (WHY)', and the program then ends with status 1.
 ";
 
-fn read_input(rt: &HostRuntime) -> anyhow::Result<Vec<u8>> {
-    let mut text = Vec::new(rt.alloc());
-    rt.stdin().read_to_end(&mut text)?;
-    Ok(text)
-}
-
 fn read_file(rt: &HostRuntime, path: &str) -> anyhow::Result<Vec<u8>> {
-    match fs::read(rt, path) {
-        Ok(text) => Ok(text),
-        Err(e) => Err(anyhow!(format!(in rt.alloc(); "{path}: {e}")?)),
-    }
-}
-
-fn carry_out(rt: &HostRuntime, text: &[u8]) -> anyhow::Result<()> {
-    if run_script(rt, text)? {
-        Err(anyhow!("there are lines that were not read"))
-    } else {
-        Ok(())
-    }
+    fs::read(rt, path).map_err(|e| anyhow!("{path}: {e}"))
 }
 
 fn start(rt: &HostRuntime) -> anyhow::Result<()> {
     let mut words = env::args(rt)?.skip(1);
-    let Some(word) = words.next() else {
-        return carry_out(rt, &read_input(rt)?);
-    };
+    let word = words.next();
     if words.next().is_some() {
-        return Err(anyhow!("more than one argument; 'fanwall --help' says how it is called"));
+        bail!("more than one argument; 'fanwall --help' says how it is called");
     }
-    match word.as_str() {
-        "--help" => Ok(rt.print(HELP)?),
-        path => carry_out(rt, &read_file(rt, path)?),
-    }
+    let bad = match word.as_deref() {
+        None => run_input(rt)?,
+        Some("--help") => return Ok(rt.print(HELP)?),
+        Some(path) => run_script(rt, &read_file(rt, path)?)?,
+    };
+    ensure!(!bad, "there are lines that were not read");
+    Ok(())
 }
 
 // What goes wrong is told by one line; where that cannot be written either, the status tells it.

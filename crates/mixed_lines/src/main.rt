@@ -10,9 +10,10 @@ ghost use Rattle.lines.specs.Bank.{bank_wall, states};
 use lines::{Bank, Feeder, Joint};
 use stations::{Fan, OlderFan};
 use std::io;
-use wall::{FitFault, Line, Outcome, Station};
+use telegram::Fault;
+use wall::{FitFault, Line, Newcomer, Outcome, Station};
 
-// asks every fan for its stored address
+// Asks every fan for its stored address. It is spelled out where it is asked, since a crate for one constant would be longer.
 const FINDER: [u8; 14] = [
     0x00, 0x43, 0x00, 0x00, 0x00, 0x00, 0x00, 0x00, 0xD1, 0x00, 0x00, 0x01, 0xC6, 0x7B,
 ];
@@ -20,17 +21,22 @@ const FINDER: [u8; 14] = [
 // asks the station at address 9 for its stored address
 const PROBE: [u8; 8] = [0x09, 0x03, 0xD1, 0x00, 0x00, 0x01, 0xBC, 0x7E];
 
+// A station that is to be made, without a defect.
+fn sound(serial: [u8; 6], address: u8) -> Newcomer {
+    Newcomer {
+        serial,
+        address,
+        defective: false,
+    }
+}
+
 // A station in the first place of a row, by a bank that is gone when this returns: the row is known all the same.
-fn fit_row<S: Station + Drop>(
-    row: &mut [Option<S>],
-    serial: [u8; 6],
-    address: u8,
-) -> Result<(), FitFault>
-    ensures row { states S.Station (take 64 row.new) ≡ after_unless (fit_fault (bank_wall S.Station.speaks S.Station.card (record { sockets = replicate (min (length row.old) 64) None; tally = 0 })) 0 serial address) (replicate (min (length row.old) 64) None) (slice_set (replicate (min (length row.old) 64) None) 0 (Some (S.Station.fresh (number serial) address false))) }
+fn fit_row<S: Station + Drop>(row: &mut [Option<S>], newcomer: Newcomer) -> Result<(), FitFault>
+    ensures row { states S.Station (take 64 row.new) ≡ after_unless (fit_fault (bank_wall S.Station.speaks S.Station.card (record { sockets = replicate (min (length row.old) 64) None; tally = 0 })) 0 newcomer.serial newcomer.address) (replicate (min (length row.old) 64) None) (slice_set (replicate (min (length row.old) 64) None) 0 (Some (S.Station.fresh (number newcomer.serial) newcomer.address newcomer.defective))) }
     ensures rest { drop 64 row.new ≡ drop 64 row.old }
 {
     let mut bank = Bank::new(row);
-    bank.fit(0, serial, address, false)
+    bank.fit(0, newcomer)
 }
 
 fn fit<L: Line>(
@@ -40,7 +46,7 @@ fn fit<L: Line>(
     serial: [u8; 6],
     address: u8,
 ) -> io::Result<()> {
-    match line.fit(socket, serial, address, false) {
+    match line.fit(socket, sound(serial, address)) {
         Ok(()) => println!(rt; "fit {socket}: done"),
         Err(fault) => println!(rt; "fit {socket}: refused {}", fault.number()),
     }
@@ -141,7 +147,7 @@ fn main(rt: HostRuntime) -> io::Result<()> {
             None => println!(rt; "row of fans, {i}: empty")?,
         }
     }
-    let emptied = fit_row(&mut fans, [1, 1, 1, 1, 1, 0], 5).is_err();
+    let emptied = fit_row(&mut fans, sound([1, 1, 1, 1, 1, 0], 5)).is_err();
     println!(rt; "a new bank, serial refused: {emptied}")?;
     for (i, place) in fans.iter().enumerate() {
         println!(rt; "row of fans, {i}: empty {}", place.is_none())?;

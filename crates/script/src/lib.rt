@@ -3,8 +3,7 @@
 
 mod bench;
 mod command;
-mod fault;
 mod fields;
 mod run;
 
-pub use run::run_script;
+pub use run::{run_and_tell, run_input, run_script};

@@ -1,33 +1,26 @@
 // A script carried out, line by line.
 use crate::bench::{Bench, Untold};
-use crate::command::{Command, Fitting};
+use crate::command::Command;
 use commands::{
-    Kind, Plan, ask, fit, front, pull, read_answer, read_answer_to, read_question, show, sum,
+    Plan, ask, fit, front, print_done, pull, read_answer, read_answer_to, read_question, show, sum,
     switch, write_answer, write_question,
 };
 use lines::{Bank, Feeder, Joint};
-use stations::{Controller, Fan, OlderFan};
+use stations::{Controller, Fan, Kind, OlderFan};
 use std::io;
+use std::io::Read;
+use telegram::Fault;
+use thiserror::Error;
 use wall::{Line, Station};
 use words::{Unread, lines_of, words_of};
 
 // Why a line came to no result.
-#[derive(Drop)]
+#[derive(Debug, Drop, Error)]
 enum Trouble {
-    Line(Unread),
-    Output(io::Error),
-}
-
-impl From<Unread> for Trouble {
-    fn from(why: Unread) -> Trouble {
-        Trouble::Line(why)
-    }
-}
-
-impl From<io::Error> for Trouble {
-    fn from(e: io::Error) -> Trouble {
-        Trouble::Output(e)
-    }
+    #[error(transparent)]
+    Line(#[from] Unread),
+    #[error(transparent)]
+    Output(#[from] io::Error),
 }
 
 // What a script keeps from line to line: the bench with the station alone, and the wall.
@@ -41,12 +34,14 @@ struct Desk<L> {
 // What stands in the sockets of the wall that a script works on.
 const PLAN: Plan = Plan {
     numbers: 512,
-    kinds: [Kind::Fan, Kind::Older, Kind::Fan, Kind::Controller],
+    kinds: [Kind::Fan, Kind::OlderFan, Kind::Fan, Kind::Controller],
 };
 
 // Carries out every line, and answers whether there was one that is not read. The wall is empty and on: its even numbers are
-// four banks of fans, its odd ones a bank of older fans and a bank of controllers.
+// four banks of fans, its odd ones a bank of older fans and a bank of controllers. Their rows are fixed memory, which is lent
+// to them.
 pub fn run_script(rt: &HostRuntime, text: &[u8]) -> io::Result<bool> {
+    // row by row, since of an array of rows it is not proved that each is lent once
     let mut fans_1 = [None; 64];
     let mut fans_2 = [None; 64];
     let mut fans_3 = [None; 64];
@@ -62,11 +57,24 @@ pub fn run_script(rt: &HostRuntime, text: &[u8]) -> io::Result<bool> {
         Bank::<Controller>::new(&mut controllers),
     );
     let mut desk = Desk {
-        bench: Bench::new(),
+        bench: Bench::default(),
         wall: Feeder::new(Joint::new(fans, others)),
         plan: PLAN,
     };
     run_lines(rt, &mut desk, text)
+}
+
+// The same for the script that stands on standard input.
+pub fn run_input(rt: &HostRuntime) -> io::Result<bool> {
+    let mut text = Vec::new(rt.alloc());
+    rt.stdin().read_to_end(&mut text)?;
+    run_script(rt, &text)
+}
+
+// The same, and the last line tells the status that the program of the bench would end with.
+pub fn run_and_tell(rt: &HostRuntime) -> io::Result<()> {
+    let status = u8::from(run_input(rt)?);
+    println!(rt; "status {status}")
 }
 
 fn run_lines<L: Line>(rt: &HostRuntime, desk: &mut Desk<L>, text: &[u8]) -> io::Result<bool> {
@@ -106,9 +114,9 @@ fn carry_out<L: Line>(
         Command::ReadAnswerTo { answer, question } => read_answer_to(rt, answer, question),
         Command::WriteQuestion(fields) => write_question(rt, &fields.telegram()),
         Command::WriteAnswer(fields) => write_answer(rt, &fields.telegram()),
-        Command::Station(fitting) => put_station(rt, &mut desk.bench, fitting),
+        Command::Station(fitting) => print_done(rt, "station", desk.bench.put_station(*fitting)),
         Command::Tell(bytes) => return tell(rt, &mut desk.bench, bytes),
-        Command::Fit { socket, newcomer } => fit(rt, &mut desk.wall, *socket, newcomer),
+        Command::Fit { socket, newcomer } => fit(rt, &mut desk.wall, *socket, *newcomer),
         Command::Pull { socket } => pull(rt, &mut desk.wall, *socket),
         Command::Switch { on } => switch(rt, &mut desk.wall, *on),
         Command::Ask(bytes) => ask(rt, &mut desk.wall, bytes),
@@ -117,20 +125,13 @@ fn carry_out<L: Line>(
     Ok(printed?)
 }
 
-fn put_station(rt: &HostRuntime, bench: &mut Bench, fitting: &Fitting) -> io::Result<()> {
-    match bench.put_station(fitting) {
-        Ok(()) => println!(rt; "station done"),
-        Err(fault) => println!(rt; "station refused {}", fault.number()),
-    }
-}
-
 fn tell(rt: &HostRuntime, bench: &mut Bench, telegram: &[u8]) -> Result<(), Trouble> {
     let mut buffer = [0; 23];
     match bench.tell(telegram, &mut buffer) {
         Ok(Some(n)) => println!(rt; "tell answer {}", front(&buffer, n))?,
         Ok(None) => println!(rt; "tell silence")?,
         Err(Untold::Short(short)) => println!(rt; "tell refused {}", short.number())?,
-        Err(Untold::NoStation) => return Err(Trouble::Line(Unread::NoStation)),
+        Err(Untold::NoStation) => return Err(Unread::NoStation.into()),
     }
     Ok(())
 }

@@ -4,9 +4,10 @@
 use lines::{Bank, Feeder, Joint};
 use stations::Fan;
 use std::io;
-use wall::{Line, Outcome, Station};
+use telegram::Fault;
+use wall::{Line, Newcomer, Outcome, Station};
 
-// asks every fan for its stored address
+// Asks every fan for its stored address. It is spelled out where it is asked, since a crate for one constant would be longer.
 const FINDER: [u8; 14] = [
     0x00, 0x43, 0x00, 0x00, 0x00, 0x00, 0x00, 0x00, 0xD1, 0x00, 0x00, 0x01, 0xC6, 0x7B,
 ];
@@ -39,7 +40,12 @@ fn ask_thrice<L: Line>(rt: &HostRuntime, line: &mut L, what: &str) -> io::Result
 }
 
 fn fit<L: Line>(rt: &HostRuntime, line: &mut L, socket: u32) -> io::Result<()> {
-    match line.fit(socket, [0x09, 0x01, 0x31, 0x32, 0x47, 0x59], 9, false) {
+    let newcomer = Newcomer {
+        serial: [0x09, 0x01, 0x31, 0x32, 0x47, 0x59],
+        address: 9,
+        defective: false,
+    };
+    match line.fit(socket, newcomer) {
         Ok(()) => println!(rt; "fan in socket {socket}"),
         Err(fault) => println!(rt; "socket {socket} refused {}", fault.number()),
     }

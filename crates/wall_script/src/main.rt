@@ -1,13 +1,9 @@
 //! A script on the wall: sockets fitted and pulled, telegrams put, the feeder switched. Its last line tells what it would end with.
 #![tactic(auto)]
 
-use script::run_script;
 use std::io;
-use std::io::Read;
 
+// A program of its own for each script, since the gate runs a program on one standard input.
 fn main(rt: HostRuntime) -> io::Result<()> {
-    let mut text = Vec::new(rt.alloc());
-    rt.stdin().read_to_end(&mut text)?;
-    let status = if run_script(&rt, &text)? { 1 } else { 0 };
-    println!(rt; "status {status}")
+    script::run_and_tell(&rt)
 }

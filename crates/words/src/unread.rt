@@ -1,58 +1,44 @@
 // Why a line is not read.
-use std::alloc::{AllocError, AllocFailed};
-use std::fmt;
+use std::alloc::AllocError;
+use std::num::TryFromIntError;
+use thiserror::Error;
 
-#[derive(Clone, Copy)]
+#[derive(Clone, Copy, Debug, PartialEq, Eq, Error)]
 pub enum Unread {
+    #[error("unknown command")]
     UnknownCommand,
+    #[error("unknown word")]
     UnknownWord,
+    #[error("a word is missing")]
     MissingWord,
+    #[error("a word too many")]
     ExtraWord,
+    #[error("odd number of digits")]
     OddDigits,
+    #[error("no hexadecimal digit")]
     NoHexadecimalDigit,
+    #[error("no decimal digit")]
     NoDecimalDigit,
+    #[error("a number without digits")]
     NoDigits,
+    #[error("number too large for its place")]
     TooLarge,
+    #[error("a serial has twelve digits")]
     NoSerial,
-    // a word of fields without its '='
+    #[error("a field is written name=value")]
     NoField,
+    #[error("unknown field")]
     UnknownField,
+    #[error("field given twice")]
     FieldTwice,
+    #[error("no station yet")]
     NoStation,
-    Memory,
+    #[error("no memory left for it")]
+    Memory(#[from(alloc)] AllocError),
 }
 
-impl fmt::Display for Unread {
-    fn fmt<W: fmt::Write>(&self, f: &mut fmt::Formatter<W>) -> fmt::Result {
-        let text = match self {
-            Unread::UnknownCommand => "unknown command",
-            Unread::UnknownWord => "unknown word",
-            Unread::MissingWord => "a word is missing",
-            Unread::ExtraWord => "a word too many",
-            Unread::OddDigits => "odd number of digits",
-            Unread::NoHexadecimalDigit => "no hexadecimal digit",
-            Unread::NoDecimalDigit => "no decimal digit",
-            Unread::NoDigits => "a number without digits",
-            Unread::TooLarge => "number too large for its place",
-            Unread::NoSerial => "a serial has twelve digits",
-            Unread::NoField => "a field is written name=value",
-            Unread::UnknownField => "unknown field",
-            Unread::FieldTwice => "field given twice",
-            Unread::NoStation => "no station yet",
-            Unread::Memory => "no memory left for it",
-        };
-        write!(f, "{text}")
-    }
-}
-
-impl From<AllocError> for Unread {
-    fn from(_e: AllocError) -> Unread {
-        Unread::Memory
-    }
-}
-
-impl<T: Drop> From<AllocFailed<T>> for Unread {
-    fn from(_e: AllocFailed<T>) -> Unread {
-        Unread::Memory
+impl From<TryFromIntError> for Unread {
+    fn from(_e: TryFromIntError) -> Unread {
+        Unread::TooLarge
     }
 }
