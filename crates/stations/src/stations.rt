@@ -96,7 +96,8 @@ impl<K: FixedKind> Station for StationOf<K> {
 
     fn tell(&mut self, telegram: &[u8], buffer: &mut [u8]) -> Result<Option<usize>, ShortBuffer> {
         let room = buffer.first_chunk_mut::<23>().ok_or(ShortBuffer)?;
-        Ok(self.answer(telegram, room))
+        let said = self.answer(telegram, room);
+        Ok(said)
     }
 }
 

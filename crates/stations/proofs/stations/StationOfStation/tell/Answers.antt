@@ -14,5 +14,5 @@ returns-clause-bytes g c =
     let t = c.args.telegram.now in
     let b = c.args.buffer.now in
     let long : is_short b ≡ false = le-ltb (length b) 23 (search rules) in
-    laid_in_room (says K x t) b _ _ (device_rules K x t).sized (search rules) (search rules) c.answer.ensures.bytes
+    laid_in_room (says K x t) b _ _ (device_rules K x t).sized (search rules) (search rules) c.answer-said.ensures.bytes
     ∙ sym (cond-false _ _ _ long)
