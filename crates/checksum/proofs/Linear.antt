@@ -28,13 +28,17 @@ unfolding eight
 eight-up h r = rw (up h 7, up h 6, up h 5, up h 4, up h 3, up h 2, up h 1, up h 0)
 
 -- the table is asked for the low byte of both, and the high byte is that of the value so far
-pub by_table : (c b : ℕ) → c < 65536 → b < 256 → bit_xor (c / 256 % 256) (eight (bit_xor (c % 256) b)) ≡ next c b
+pub by_table : (c b : ℕ) → b < 256 → bit_xor (c / 256) (eight (bit_xor c b % 256)) ≡ next c b
 unfolding next
-by_table c b short low =
+by_table c b low =
     let x : ℕ = bit_xor c b in
-    let high : c / 256 % 256 ≡ c / 256 = omega arith in
-    let byte : bit_xor (c % 256) b ≡ x % 256 = ap (bit_xor (c % 256)) (omega arith) ∙ sym (xor_mod c b 8) in
     let top : x / 256 ≡ c / 256 = xor_shr c b 8 ∙ ap (bit_xor (c / 256)) (omega arith) ∙ xor_zero_r (c / 256) in
     let whole : bit_xor (x / 256 * 2 ^ 8) (x % 256) ≡ x = xor_shifted (x / 256) 8 (x % 256) (omega arith) ∙ omega arith in
-    let split : eight x ≡ bit_xor (x / 256 * 2 ^ 0) (eight (x % 256)) = ap eight (sym whole) ∙ eight-up (x / 256) (x % 256) in
-    (λ i. bit_xor (high i) (eight (byte i))) ∙ sym (split ∙ ap (λ n. bit_xor n (eight (x % 256))) (omega (arith, top)))
+    sym (ap eight (sym whole) ∙ eight-up (x / 256) (x % 256) ∙ ap (λ n. bit_xor n (eight (x % 256))) (omega (arith, top)))
+
+-- the same by the two bytes of the value
+pub by_bytes : (c b : ℕ) → c < 65536 → b < 256 → bit_xor (c / 256 % 256) (eight (bit_xor (c % 256) b)) ≡ next c b
+by_bytes c b short low =
+    let high : c / 256 % 256 ≡ c / 256 = omega arith in
+    let byte : bit_xor (c % 256) b ≡ bit_xor c b % 256 = ap (bit_xor (c % 256)) (omega arith) ∙ sym (xor_mod c b 8) in
+    (λ i. bit_xor (high i) (eight (byte i))) ∙ by_table c b low

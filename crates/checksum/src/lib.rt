@@ -39,7 +39,7 @@ fn entry(b: u8) -> u16
 }
 
 // The value after one byte more. Only the low byte decides which polynomials come in, so the high byte moves down as it is.
-#[tactic(auto, using(crate::proofs::Linear::by_table))]
+#[tactic(auto, using(crate::proofs::Linear::by_bytes))]
 fn stepped(c: u16, b: u8) -> u16
     ensures { result ≡ next c b }
 {

@@ -1,9 +1,10 @@
 -- Two outcomes on one wire, and the buffer of a line that asks others.
-use Rattle.std.proofs.Common.{◌≡◌, ℕ, ◌≤◌, List, ◌++◌, length, drop, replicate, ap, ◌∙◌, sym, arith}
-use Rattle.std.proofs.lemmas.List.{append-nil, drop_all}
+use Rattle.std.proofs.Common.{◌≡◌, ℕ, ◌≤◌, List, ◌++◌, length, drop, replicate, refl, ap, ◌∙◌, sym, arith}
+use Rattle.std.proofs.lemmas.List.{append-nil, drop_all, length-append, length-drop, length-replicate}
 use Rattle.std.proofs.lemmas.Bool.{le-ltb}
 use Rattle.wall.specs.declared.outcome.Outcome.{Outcome}
-use Rattle.wall.specs.Wall.{Reply}
+use Rattle.wall.specs.Wall.{Reply, silence, answer, clash}
+use Rattle.wall.specs.Rules.{Sized}
 use Rattle.wall.specs.Lines.{outcome_of, front, asked_buffer}
 use Rattle.lines.specs.Blends.{both, blended, kept}
 
@@ -15,6 +16,15 @@ kept-both r s = grind arith
 
 asked_bytes : (r : Reply) (b : List ℕ) → 23 ≤ length b → asked_buffer r b ≡ front r ++ drop 23 b
 asked_bytes r b h = grind (arith, le-ltb)
+
+padded : (bytes : List ℕ) → length bytes ≤ 23 → length (bytes ++ drop (length bytes) (replicate 23 0)) ≡ 23
+padded bytes h = simp (length-append, length-drop, length-replicate) (omega arith)
+
+-- what is in front of the buffer after a reply of a line is 23 bytes long
+pub front_length : (r : Reply) → Sized r → length (front r) ≡ 23
+front_length silence h = refl
+front_length (answer bytes) h = padded bytes h.1
+front_length clash h = refl
 
 -- f are the 23 bytes in front of the buffer b, and last what a line that is asked with them leaves there
 module _ (r : Reply) (b f : List ℕ) (h : 23 ≤ length b) (k : length f ≡ 23) where

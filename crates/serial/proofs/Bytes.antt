@@ -8,7 +8,7 @@ use Rattle.serial.specs.Six.{six, number, no_zero, fair, fitting, before}
 abbrev pub at_places : List ℕ → List ℕ
 at_places bs = get_or bs 0 0 ∷ get_or bs 1 0 ∷ get_or bs 2 0 ∷ get_or bs 3 0 ∷ get_or bs 4 0 ∷ get_or bs 5 0 ∷ []
 
-spelled : (bs : List ℕ) → length bs ≡ 6 → bs ≡ at_places bs
+pub spelled : (bs : List ℕ) → length bs ≡ 6 → bs ≡ at_places bs
 spelled [] h = absurd (omega arith)
 spelled (a ∷ []) h = absurd (omega arith)
 spelled (a ∷ b ∷ []) h = absurd (omega arith)
@@ -19,7 +19,7 @@ spelled (a ∷ b ∷ c ∷ d ∷ e ∷ f ∷ []) h = refl
 spelled (a ∷ b ∷ c ∷ d ∷ e ∷ f ∷ g ∷ bs) h = absurd (omega arith)
 
 -- the six bytes of the number that six bytes make are those bytes
-six-is : (v a b c d e f : ℕ) → a < 256 → b < 256 → c < 256 → d < 256 → e < 256 → f < 256 → v ≡ a * 1099511627776 + b * 4294967296 + c * 16777216 + d * 65536 + e * 256 + f → six v ≡ a ∷ b ∷ c ∷ d ∷ e ∷ f ∷ []
+pub six-is : (v a b c d e f : ℕ) → a < 256 → b < 256 → c < 256 → d < 256 → e < 256 → f < 256 → v ≡ a * 1099511627776 + b * 4294967296 + c * 16777216 + d * 65536 + e * 256 + f → six v ≡ a ∷ b ∷ c ∷ d ∷ e ∷ f ∷ []
 six-is v a b c d e f ha hb hc hd he hf is =
     let p : v / 1099511627776 % 256 ≡ a = omega arith in
     let q : v / 4294967296 % 256 ≡ b = omega arith in
