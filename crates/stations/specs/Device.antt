@@ -54,9 +54,10 @@ abbrev pub read_out : (ℕ → ℕ) → ℕ → ℕ → List ℕ
 read_out at r zero = []
 read_out at r (suc n) = read_out at r n ++ word (at (r + n))
 
--- words whose front is the bytes of the registers from the one at r on, for up to nine that there can be
-abbrev pub ReadsOut : (ℕ → ℕ) → ℕ → List (List ℕ) → Type 0
-ReadsOut at r words = (n : ℕ) → n ≤ 9 → r + n ≤ 65536 → take (2 * n) (flat_map (λ x. x) words) ≡ read_out at r n
+-- words whose front is the bytes of the registers from the one at r on, for up to as many as were read, nine at most, that
+-- there can be
+abbrev pub ReadsOut : (ℕ → ℕ) → ℕ → ℕ → List (List ℕ) → Type 0
+ReadsOut at r read words = (n : ℕ) → n ≤ read → n ≤ 9 → r + n ≤ 65536 → take (2 * n) (flat_map (λ x. x) words) ≡ read_out at r n
 
 -- a right by the level held, and a defective station stores nothing from D100 on
 abbrev pub allowed : State → ℕ → Bool

@@ -241,7 +241,7 @@ impl<K: FixedKind> StationOf<K> {
         ensures size { result ≡ length (answer (answer_to (state self.now.device) (fields q.now.telegram) (read_out (register_at K.KIND (state self.now.device) q.now.action) q.now.telegram.register q.now.telegram.value))) }
         ensures bytes { buffer.new ≡ answer (answer_to (state self.now.device) (fields q.now.telegram) (read_out (register_at K.KIND (state self.now.device) q.now.action) q.now.telegram.register q.now.telegram.value)) ++ drop result buffer.old }
     {
-        let words = self.read_out(q.action, q.telegram.register);
+        let words = self.read_out(q.action, q.telegram.register, q.telegram.value);
         let bytes = words.as_flattened();
         self.device
             .put_answer(q, &bytes[..2 * usize::from(q.telegram.value)], buffer)

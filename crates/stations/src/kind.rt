@@ -31,9 +31,17 @@ impl fmt::Display for Kind {
     }
 }
 
-// A kind that a type stands for: a const parameter of a struct can be a number, and no enum.
+// A kind that a type stands for: a const parameter of a struct can be a number, and no enum. A station of the type keeps the
+// laws of a station with what is defined for the kind.
 pub trait FixedKind {
+    ghost use Rattle.wall.specs.Laws.{StationLaws};
+    ghost use Rattle.stations.specs.Calls.{card, says, becomes};
+    ghost use Rattle.stations.specs.Device.{fresh};
+    ghost use Rattle.stations.specs.Shows.{shown_state};
+
     ghost KIND: { Kind };
+
+    ghost laws: { StationLaws (shown_state {T = Self}) (speaks KIND) (card KIND) (says KIND) (becomes KIND) fresh };
 
     const KIND: Kind;
 }
@@ -49,24 +57,33 @@ pub struct ControllerKind;
 
 impl FixedKind for FanKind {
     ghost use Rattle.stations.specs.declared.kind.Kind.TheVariants.{Fan};
+    ghost use Rattle.stations.specs.Shows.{fan_laws};
 
     ghost KIND = { Fan };
+
+    ghost laws = { fan_laws };
 
     const KIND: Kind = Kind::Fan;
 }
 
 impl FixedKind for OlderFanKind {
     ghost use Rattle.stations.specs.declared.kind.Kind.TheVariants.{OlderFan};
+    ghost use Rattle.stations.specs.Shows.{older_laws};
 
     ghost KIND = { OlderFan };
+
+    ghost laws = { older_laws };
 
     const KIND: Kind = Kind::OlderFan;
 }
 
 impl FixedKind for ControllerKind {
     ghost use Rattle.stations.specs.declared.kind.Kind.TheVariants.{Controller};
+    ghost use Rattle.stations.specs.Shows.{controller_laws};
 
     ghost KIND = { Controller };
+
+    ghost laws = { controller_laws };
 
     const KIND: Kind = Kind::Controller;
 }

@@ -7,7 +7,7 @@ ghost use Rattle.stations.specs.Kinds.{speaks};
 ghost use Rattle.stations.specs.Device.{State, fresh, input_at, register_at, ReadsOut};
 ghost use Rattle.stations.specs.Parts.{state};
 ghost use Rattle.stations.specs.Calls.{card, says, becomes};
-ghost use Rattle.stations.specs.Shows.{shown_state, shown_laws};
+ghost use Rattle.stations.specs.Shows.{shown_state};
 
 use crate::calls::Call;
 use crate::device::Device;
@@ -56,7 +56,7 @@ impl<K: FixedKind> Station for StationOf<K> {
 
     ghost fresh = { fresh };
 
-    ghost laws = { shown_laws K.KIND };
+    ghost laws = { K.laws };
 
     fn new(admitted: Admitted) -> StationOf<K> {
         StationOf {
@@ -148,15 +148,21 @@ impl<K: FixedKind> StationOf<K> {
         self.register(action, register).to_be_bytes()
     }
 
-    // The bytes of nine registers from one on, of which an answer takes those that were asked for.
-    pub(crate) fn read_out(&self, action: Action, first: u16) -> [[u8; 2]; 9]
-        ensures { ReadsOut (register_at K.KIND (state self.now.device) action) first result }
+    // The bytes of so many registers from one on, of nine at most; those after them are not read, and stand as zeros.
+    pub(crate) fn read_out(&self, action: Action, first: u16, count: u16) -> [[u8; 2]; 9]
+        ensures { ReadsOut (register_at K.KIND (state self.now.device) action) first count result }
     {
         array::from_fn(
             |place: usize| -> [u8; 2]
                 requires { place < 9 }
-                ensures { result ≡ word (register_at K.KIND (state self.entry.now.device) action (min (first + place) 65535)) }
-            { self.bytes_after(action, first, place) },
+                ensures { place < count → result ≡ word (register_at K.KIND (state self.entry.now.device) action (min (first + place) 65535)) }
+            {
+                if place < usize::from(count) {
+                    self.bytes_after(action, first, place)
+                } else {
+                    [0; 2]
+                }
+            },
         )
     }
 }
