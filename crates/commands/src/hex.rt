@@ -43,9 +43,10 @@ impl<'a> Hex<'a> {
     }
 }
 
-// What was written into the front of a buffer: its first n bytes. The writers have no heap, and tell a length.
+// What was written into the front of a buffer: its first n bytes, spaced. The writers have no heap, and tell a length.
 pub fn front(buffer: &[u8], n: usize) -> Hex<'_>
-    ensures { n ≤ length buffer.now → result.bytes.now ≡ take n buffer.now }
+    ensures bytes { n ≤ length buffer.now → result.bytes.now ≡ take n buffer.now }
+    ensures between { result.between.now ≡ codes " " }
 {
     Hex::spaced(buffer.get(..n).unwrap_or(&[]))
 }
